@@ -1,0 +1,2 @@
+-- What document 01 says of one cell.
+pub mod OneCell

@@ -1,0 +1,392 @@
+// One cell of the picture: its parts, packed into a word and read back, and the three rules by which ink falls on what is there.
+ghost use mathlib.Core.Path.{_≡_};
+ghost use Prim.Native.Nat.{_<_, _≤_};
+ghost use Rattle.cell.specs.OneCell.{weightNumber, kindNumber, dirNumber, weightOf, kindOf, dirOf};
+ghost use Rattle.cell.specs.OneCell.{packArms, packMarker, pack, readArms, readText, readMarker, read};
+ghost use Rattle.cell.specs.OneCell.{heavier, heavierArms, isDouble, hasDouble, stem, doubleOnMarker};
+ghost use Rattle.cell.specs.OneCell.{strokeOn, markerOn, textOn, strokeCell, markerCell, textCell};
+
+// The weight of one arm of a stroke.
+pub enum Weight {
+    None,
+    Dashed,
+    Light,
+    Double,
+}
+
+impl Weight {
+    pub fn number(self) -> u32
+        ensures { λ r. ⌜ (r ≡ weightNumber self) × (r ≤ 3) ⌝ }
+    {
+        match self {
+            Weight::None => 0,
+            Weight::Dashed => 1,
+            Weight::Light => 2,
+            Weight::Double => 3,
+        }
+    }
+
+    pub fn from_bits(bits: u32) -> Weight
+        ensures { λ r. ⌜ r ≡ weightOf bits ⌝ }
+    {
+        match bits {
+            1 => Weight::Dashed,
+            2 => Weight::Light,
+            3 => Weight::Double,
+            _ => Weight::None,
+        }
+    }
+
+    // "the greater weight per arm"
+    pub fn max(self, other: Weight) -> Weight
+        ensures { λ r. ⌜ r ≡ heavier self other ⌝ }
+    {
+        let mine = self.number();
+        let theirs = other.number();
+        if theirs <= mine { self } else { other }
+    }
+
+    pub fn is_double(self) -> bool
+        ensures { λ r. ⌜ r ≡ isDouble self ⌝ }
+    {
+        let n = self.number();
+        n == 3
+    }
+}
+
+// Ink that stands at an end or a node, and is no part of a line.
+pub enum MarkerKind {
+    Arrow,
+    SelfLoop,
+    Dummy,
+}
+
+impl MarkerKind {
+    pub fn number(self) -> u32
+        ensures { λ r. ⌜ (r ≡ kindNumber self) × (r ≤ 3) ⌝ }
+    {
+        match self {
+            MarkerKind::Arrow => 1,
+            MarkerKind::SelfLoop => 2,
+            MarkerKind::Dummy => 3,
+        }
+    }
+
+    pub fn from_bits(bits: u32) -> MarkerKind
+        ensures { λ r. ⌜ r ≡ kindOf bits ⌝ }
+    {
+        match bits {
+            2 => MarkerKind::SelfLoop,
+            3 => MarkerKind::Dummy,
+            _ => MarkerKind::Arrow,
+        }
+    }
+}
+
+// Where an arrow points.
+pub enum Dir {
+    Up,
+    Down,
+    Left,
+    Right,
+}
+
+impl Dir {
+    pub fn number(self) -> u32
+        ensures { λ r. ⌜ (r ≡ dirNumber self) × (r ≤ 3) ⌝ }
+    {
+        match self {
+            Dir::Up => 0,
+            Dir::Down => 1,
+            Dir::Left => 2,
+            Dir::Right => 3,
+        }
+    }
+
+    pub fn from_bits(bits: u32) -> Dir
+        ensures { λ r. ⌜ r ≡ dirOf bits ⌝ }
+    {
+        match bits {
+            0 => Dir::Up,
+            1 => Dir::Down,
+            2 => Dir::Left,
+            _ => Dir::Right,
+        }
+    }
+}
+
+// The four arms of a stroke.
+pub struct Arms {
+    pub up: Weight,
+    pub down: Weight,
+    pub left: Weight,
+    pub right: Weight,
+}
+
+impl Arms {
+    // "weights at bits 0 up, 3 down, 6 left, 9 right"
+    pub fn packed(self) -> u32
+        ensures { λ r. ⌜ (r ≡ packArms self) × (r < 4096) ⌝ }
+    {
+        let up = self.up;
+        let down = self.down;
+        let left = self.left;
+        let right = self.right;
+        up.number() + 8 * down.number() + 64 * left.number() + 512 * right.number()
+    }
+
+    pub fn from_bits(bits: u32) -> Arms
+        ensures { λ r. ⌜ r ≡ readArms bits ⌝ }
+    {
+        Arms {
+            up: Weight::from_bits(bits % 8),
+            down: Weight::from_bits(bits / 8 % 8),
+            left: Weight::from_bits(bits / 64 % 8),
+            right: Weight::from_bits(bits / 512 % 8),
+        }
+    }
+
+    // The greater weight of each arm.
+    pub fn max(self, other: Arms) -> Arms
+        ensures { λ r. ⌜ r ≡ heavierArms self other ⌝ }
+    {
+        let up = self.up;
+        let down = self.down;
+        let left = self.left;
+        let right = self.right;
+        let other_up = other.up;
+        let other_down = other.down;
+        let other_left = other.left;
+        let other_right = other.right;
+        Arms {
+            up: up.max(other_up),
+            down: down.max(other_down),
+            left: left.max(other_left),
+            right: right.max(other_right),
+        }
+    }
+
+    pub fn has_double(self) -> bool
+        ensures { λ r. ⌜ r ≡ hasDouble self ⌝ }
+    {
+        let up = self.up;
+        let down = self.down;
+        let left = self.left;
+        let right = self.right;
+        if up.is_double() {
+            return true;
+        }
+        if down.is_double() {
+            return true;
+        }
+        if left.is_double() {
+            return true;
+        }
+        right.is_double()
+    }
+
+    // "a Light stem in its direction"
+    pub fn stem(dir: Dir) -> Arms
+        ensures { λ r. ⌜ r ≡ stem dir ⌝ }
+    {
+        let n = Weight::None;
+        let l = Weight::Light;
+        match dir {
+            Dir::Up => Arms {
+                up: l,
+                down: n,
+                left: n,
+                right: n,
+            },
+            Dir::Down => Arms {
+                up: n,
+                down: l,
+                left: n,
+                right: n,
+            },
+            Dir::Left => Arms {
+                up: n,
+                down: n,
+                left: l,
+                right: n,
+            },
+            Dir::Right => Arms {
+                up: n,
+                down: n,
+                left: n,
+                right: l,
+            },
+        }
+    }
+}
+
+// What a cell means.
+pub enum Parts {
+    Empty,
+    Text(u32),
+    Continuation,
+    Stroke(Arms),
+    Marker {
+        kind: MarkerKind,
+        dir: Dir,
+        dashed: bool,
+    },
+}
+
+impl Parts {
+    pub fn pack(self) -> u32
+        ensures { λ r. ⌜ r ≡ pack self ⌝ }
+    {
+        match self {
+            Parts::Empty => 0,
+            Parts::Text(ch) => 0x4000_0000 + ch % 0x20_0000,
+            Parts::Continuation => 0x4020_0000,
+            Parts::Stroke(arms) => 0x8000_0000 + arms.packed(),
+            Parts::Marker { kind, dir, dashed } => 0xC000_0000 + packed_marker(kind, dir, dashed),
+        }
+    }
+
+    // The parts of any word: what is no packing reads as the parts that its tag and fields name.
+    pub fn read(word: u32) -> Parts
+        ensures { λ r. ⌜ r ≡ read word ⌝ }
+    {
+        let tag = word / 0x4000_0000;
+        match tag {
+            0 => Parts::Empty,
+            1 => read_text(word),
+            2 => Parts::Stroke(Arms::from_bits(word)),
+            _ => read_marker(word),
+        }
+    }
+
+    // A stroke on what is there.
+    pub fn stroked(self, new: Arms) -> Parts
+        ensures { λ r. ⌜ r ≡ strokeOn new self ⌝ }
+    {
+        let double = new.has_double();
+        match self {
+            Parts::Empty => Parts::Stroke(new),
+            Parts::Stroke(old) => Parts::Stroke(old.max(new)),
+            Parts::Text(ch) => if double { Parts::Stroke(new) } else { self },
+            Parts::Continuation => if double { Parts::Stroke(new) } else { self },
+            Parts::Marker { kind, dir, dashed } => if double {
+                double_on_marker(new, kind, dir)
+            } else {
+                self
+            },
+        }
+    }
+
+    // A marker on what is there: "A marker replaces all but text."
+    pub fn marked(self, kind: MarkerKind, dir: Dir, dashed: bool) -> Parts
+        ensures { λ r. ⌜ r ≡ markerOn kind dir dashed self ⌝ }
+    {
+        match self {
+            Parts::Text(ch) => self,
+            Parts::Continuation => self,
+            _ => Parts::Marker {
+                kind: kind,
+                dir: dir,
+                dashed: dashed,
+            },
+        }
+    }
+}
+
+// "kind in bits 3..0, direction in 5..4, dashed in bit 6"
+fn packed_marker(kind: MarkerKind, dir: Dir, dashed: bool) -> u32
+    ensures { λ r. ⌜ (r ≡ packMarker kind dir dashed) × (r < 128) ⌝ }
+{
+    let low = kind.number() + 16 * dir.number();
+    if dashed { low + 64 } else { low }
+}
+
+fn read_text(word: u32) -> Parts
+    ensures { λ r. ⌜ r ≡ readText word ⌝ }
+{
+    let second = word / 0x20_0000 % 2;
+    if second == 1 {
+        Parts::Continuation
+    } else {
+        Parts::Text(word % 0x20_0000)
+    }
+}
+
+fn read_marker(word: u32) -> Parts
+    ensures { λ r. ⌜ r ≡ readMarker word ⌝ }
+{
+    let dashed = word / 64 % 2 == 1;
+    Parts::Marker {
+        kind: MarkerKind::from_bits(word % 16),
+        dir: Dir::from_bits(word / 16 % 4),
+        dashed: dashed,
+    }
+}
+
+// A stroke with a Double arm on a marker: an Arrow first becomes a stem, then merges; the other kinds are replaced.
+fn double_on_marker(new: Arms, kind: MarkerKind, dir: Dir) -> Parts
+    ensures { λ r. ⌜ r ≡ doubleOnMarker new kind dir ⌝ }
+{
+    match kind {
+        MarkerKind::Arrow => Parts::Stroke(Arms::stem(dir).max(new)),
+        MarkerKind::SelfLoop => Parts::Stroke(new),
+        MarkerKind::Dummy => Parts::Stroke(new),
+    }
+}
+
+// A cell is the packing of its parts in a word.
+pub struct Cell(pub u32);
+
+impl Cell {
+    pub const EMPTY: Cell = Cell(0);
+    // The second column of a wide glyph.
+    pub const CONTINUATION: Cell = Cell(0x4020_0000);
+
+    pub fn text(ch: u32) -> Cell
+        ensures { λ r. ⌜ r .0 ≡ pack (Parts.Text ch) ⌝ }
+    {
+        let parts = Parts::Text(ch);
+        Cell(parts.pack())
+    }
+
+    pub fn stroke(arms: Arms) -> Cell
+        ensures { λ r. ⌜ r .0 ≡ pack (Parts.Stroke arms) ⌝ }
+    {
+        let parts = Parts::Stroke(arms);
+        Cell(parts.pack())
+    }
+
+    pub fn marker(kind: MarkerKind, dir: Dir, dashed: bool) -> Cell
+        ensures { λ r. ⌜ r .0 ≡ pack (Parts.Marker kind dir dashed) ⌝ }
+    {
+        let parts = Parts::Marker {
+            kind: kind,
+            dir: dir,
+            dashed: dashed,
+        };
+        Cell(parts.pack())
+    }
+
+    pub fn painted_stroke(self, new: Arms) -> Cell
+        ensures { λ r. ⌜ r .0 ≡ strokeCell new (self .0) ⌝ }
+    {
+        let old = Parts::read(self.0);
+        let parts = old.stroked(new);
+        Cell(parts.pack())
+    }
+
+    pub fn painted_marker(self, kind: MarkerKind, dir: Dir, dashed: bool) -> Cell
+        ensures { λ r. ⌜ r .0 ≡ markerCell kind dir dashed (self .0) ⌝ }
+    {
+        let old = Parts::read(self.0);
+        let parts = old.marked(kind, dir, dashed);
+        Cell(parts.pack())
+    }
+
+    // "Text replaces everything."
+    pub fn painted_text(self, ch: u32) -> Cell
+        ensures { λ r. ⌜ r .0 ≡ textCell ch (self .0) ⌝ }
+    {
+        Cell::text(ch)
+    }
+}

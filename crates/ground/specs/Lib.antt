@@ -1,0 +1,2 @@
+-- What every layer shares: choosing by a test.
+pub mod Choice
