@@ -1,0 +1,2 @@
+-- What document 01 says of ink in a row of cells.
+pub mod Row

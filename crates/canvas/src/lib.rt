@@ -1,0 +1,2 @@
+// Ink on lent cells.
+pub mod row;
