@@ -1,0 +1,66 @@
+-- What both flows share: the flow's sign, a place so many cells along it, the arrows on a line, and the arms of a stroke. `s` is true for +1.
+use Prim.Native.Nat.{ℕ, _+_, _-_}
+use mathlib.Core.Bool.{Bool, true, false, not}
+use lib.Dec.{leb}
+use Rattle.ground.specs.Choice.{pick}
+use Rattle.cell.specs.declared.Weight.{Weight}
+use Rattle.cell.specs.declared.Weight.the-variants as weight
+use Rattle.cell.specs.declared.Arms.{Arms}
+use Rattle.cell.specs.declared.Dir.{Dir}
+use Rattle.image.specs.declared.Edge.{Edge}
+use Rattle.path.specs.declared.Place.{Place}
+use Rattle.path.specs.declared.Place.the-variants as place
+use Rattle.path.specs.declared.Head.{Head}
+use Rattle.path.specs.declared.Head.the-variants as head
+use Rattle.path.specs.declared.Line.{Line}
+
+-- "Let s be +1 if to y ≥ from y, else −1", and so for x
+abbrev pub flowSign : ℕ → ℕ → Bool
+flowSign from to = leb from to
+
+-- from + s·steps, or that it lies below 0
+unfoldable pub along : Bool → ℕ → ℕ → Place
+along s from steps =
+    pick s (place.At (from + steps)) (pick (leb steps from) (place.At (from - steps)) place.Below)
+
+-- "Reversed swaps start and end markers"
+
+abbrev pub sourceMarker : Edge → Bool
+sourceMarker e = pick (e .reversed) (e .«end_marker») (e .«start_marker»)
+
+abbrev pub targetMarker : Edge → Bool
+targetMarker e = pick (e .reversed) (e .«start_marker») (e .«end_marker»)
+
+-- an arrow at a place, where one is wanted: "A row of −1 matches no cell."
+unfoldable pub headAt : Bool → Place → Dir → Head
+headAt wanted (place.At n) dir = pick wanted (head.At n dir) head.None
+headAt wanted place.Below dir = head.None
+
+-- "a start arrow points −s at from y + s": the direction is the flow's to say
+unfoldable pub startHead : Bool → Bool → ℕ → Dir → Head
+startHead wanted s from dir = headAt wanted (along s from 1) dir
+
+-- "An end arrow points s at to y − s"
+unfoldable pub endHead : Bool → Bool → ℕ → Dir → Head
+endHead wanted s to dir = headAt wanted (along (not s) to 1) dir
+
+-- a line at a column (or row) strictly between two rows (or columns): "'Between' excludes both ends"; of two arrows on one cell the first stands
+unfoldable pub lineOf : ℕ → ℕ → ℕ → Head → Head → Line
+lineOf at a b one two = record { at = at; a = a; b = b; one = one; two = two }
+
+-- the arms of strokes: along the rows, along the columns, and of a corner with one arm of each pair
+
+abbrev pub vertical : Weight → Arms
+vertical w = record { up = w; down = w; left = weight.None; right = weight.None }
+
+abbrev pub horizontal : Weight → Arms
+horizontal w = record { up = weight.None; down = weight.None; left = w; right = w }
+
+-- an arm down (else up) and an arm right (else left)
+abbrev pub corner : Weight → Bool → Bool → Arms
+corner w down right = record {
+  up = pick down weight.None w;
+  down = pick down w weight.None;
+  left = pick right weight.None w;
+  right = pick right w weight.None;
+}
