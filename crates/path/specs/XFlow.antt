@@ -15,7 +15,7 @@ use Rattle.path.specs.declared.Bend.{Bend}
 use Rattle.path.specs.declared.Leg.{Leg}
 use Rattle.path.specs.declared.Piece.{Piece}
 use Rattle.path.specs.declared.Piece.the-variants.{Nothing, Vertical, Horizontal, Stroke, Mark}
-use Rattle.path.specs.Flow.{flowSign, along, sourceMarker, targetMarker, startHead, endHead, lineOf, horizontal, corner}
+use Rattle.path.specs.Flow.{flowSign, along, sourceMarker, targetMarker, startHead, endHead, lineOf, cornerBend, legBend, cornerSteps, horizontal, corner}
 
 abbrev pub signX : Edge → Bool
 signX e = flowSign (e .«from_x») (e .«to_x»)
@@ -51,76 +51,73 @@ crossLastX w s column y1 y2 = pick (eqb y1 y2) Nothing (Stroke column y2 (corner
 abbrev pub nextX : Bool → ℕ → ℕ → Bool
 nextX s from bend = pick s (eqb bend (from + 1)) (eqb (bend + 1) from)
 
+abbrev pub cornerArrowX : Bool → Bend → Bool
+cornerArrowX s v = both (v .start) (nextX s (v .x1) (v .at))
+
+-- a horizontal to a bend (start arrow only), a stroke at a leg's own start, and a horizontal from a bend (end arrow only)
+
+unfoldable pub trunkX : Bool → Bend → Piece
+trunkX s v =
+    pick (v .trunk)
+    (Horizontal (lineOf (v .y1) (v .x1) (v .at) (startHead (v .start) s (v .x1) (againstX s)) head.None))
+    Nothing
+
+abbrev pub ownX : Weight → Bool → ℕ → ℕ → Piece
+ownX w own x y = pick own (Stroke x y (horizontal w)) Nothing
+
+unfoldable pub tailX : Bool → Bool → ℕ → ℕ → ℕ → Piece
+tailX s wanted y from to = Horizontal (lineOf y from to (endHead wanted s to (withX s)) head.None)
+
 -- a way that bends once, on a column
 unfoldable pub bentX : Weight → Bool → Bend → ℕ → Piece
 bentX w s v slot =
-    pick (eqb slot 0)
-    (pick (v .trunk) (Horizontal (lineOf (v .y1) (v .x1) (v .at) (startHead (v .start) s (v .x1) (againstX s)) head.None)) Nothing)
-    (pick (eqb slot 1) (pick (v .own) (Stroke (v .x1) (v .y1) (horizontal w)) Nothing)
+    pick (eqb slot 0) (trunkX s v)
+    (pick (eqb slot 1) (ownX w (v .own) (v .x1) (v .y1))
     (pick (eqb slot 2) (crossLineX (v .at) (v .y1) (v .y2))
-    (pick (eqb slot 3) (crossFirstX w s (both (v .start) (nextX s (v .x1) (v .at))) (v .at) (v .y1) (v .y2))
+    (pick (eqb slot 3) (crossFirstX w s (cornerArrowX s v) (v .at) (v .y1) (v .y2))
     (pick (eqb slot 4) (crossLastX w s (v .at) (v .y1) (v .y2))
-    (Horizontal (lineOf (v .y2) (v .at) (v .x2) (endHead (v .end) s (v .x2) (withX s)) head.None))))))
+    (tailX s (v .end) (v .y2) (v .at) (v .x2))))))
 
 -- Corner: horizontal (start arrow only), crossing at the bend, horizontal at to y (end arrow only)
 unfoldable pub cornerX : Edge → ℕ → ℕ → Piece
 cornerX e bend slot =
-    bentX (e .weight) (signX e) (record {
-      trunk = true;
-      own = false;
-      start = sourceMarker e;
-      end = targetMarker e;
-      at = bend;
-      x1 = e .«from_x»;
-      y1 = e .«from_y»;
-      x2 = e .«to_x»;
-      y2 = e .«to_y»;
-    }) slot
+    bentX (e .weight) (signX e) (cornerBend e bend) slot
 
 -- SideChannel: a source trunk (start arrow), crossing at span start (the corner arrow as at a bend), horizontal in the channel, crossing at span end,
 -- horizontal to the target (end arrow)
 unfoldable pub sideX : Edge → ℕ → ℕ → ℕ → ℕ → Piece
 sideX e channel start end slot =
-    pick (eqb slot 0)
-    (Horizontal (lineOf (e .«from_y») (e .«from_x») start (startHead (sourceMarker e) (signX e) (e .«from_x») (againstX (signX e))) head.None))
+    pick (eqb slot 0) (trunkX (signX e) (cornerBend e start))
     (pick (eqb slot 1) (crossLineX start (e .«from_y») channel)
     (pick (eqb slot 2)
-    (crossFirstX (e .weight) (signX e) (both (sourceMarker e) (nextX (signX e) (e .«from_x») start)) start (e .«from_y») channel)
+    (crossFirstX (e .weight) (signX e) (cornerArrowX (signX e) (cornerBend e start)) start (e .«from_y») channel)
     (pick (eqb slot 3) (crossLastX (e .weight) (signX e) start (e .«from_y») channel)
     (pick (eqb slot 4) (Horizontal (lineOf channel start end head.None head.None))
     (pick (eqb slot 5) (crossLineX end channel (e .«to_y»))
     (pick (eqb slot 6) (crossFirstX (e .weight) (signX e) false end channel (e .«to_y»))
     (pick (eqb slot 7) (crossLastX (e .weight) (signX e) end channel (e .«to_y»))
-    (Horizontal (lineOf (e .«to_y») end (e .«to_x») (endHead (targetMarker e) (signX e) (e .«to_x») (withX (signX e))) head.None)))))))))
+    (tailX (signX e) (targetMarker e) (e .«to_y») end (e .«to_x»))))))))))
 
 -- MultiSegment: equal y gives a horizontal (start arrow on the first leg beats end arrow on the last); every later leg strokes the horizontal at its start
+unfoldable pub straightLineX : Edge → Leg → Piece
+straightLineX e leg =
+    Horizontal (lineOf (leg .y1) (leg .x1) (leg .x2)
+    (startHead (both (leg .first) (sourceMarker e)) (signX e) (leg .x1) (againstX (signX e)))
+    (endHead (both (leg .last) (targetMarker e)) (signX e) (leg .x2) (withX (signX e))))
+
 unfoldable pub straightX : Edge → Leg → ℕ → Piece
 straightX e leg slot =
-    pick (eqb slot 1) (pick (leg .first) Nothing (Stroke (leg .x1) (leg .y1) (horizontal (e .weight))))
-    (pick (eqb slot 5)
-    (Horizontal (lineOf (leg .y1) (leg .x1) (leg .x2)
-    (startHead (both (leg .first) (sourceMarker e)) (signX e) (leg .x1) (againstX (signX e)))
-    (endHead (both (leg .last) (targetMarker e)) (signX e) (leg .x2) (withX (signX e)))))
-    Nothing)
+    pick (eqb slot 1) (ownX (e .weight) (not (leg .first)) (leg .x1) (leg .y1))
+    (pick (eqb slot 5) (straightLineX e leg) Nothing)
 
 -- else the corner column is px + s·(1 + offset on the first leg, 0 later)
 unfoldable pub cornerColumn : Edge → ℕ → Leg → Place
-cornerColumn e offset leg = along (signX e) (leg .x1) (1 + pick (leg .first) offset 0)
+cornerColumn e offset leg = along (signX e) (leg .x1) (cornerSteps offset leg)
 
 unfoldable pub crossingX : Edge → ℕ → Leg → Place → ℕ → Piece
 crossingX e offset leg place.Below slot = Nothing
 crossingX e offset leg (place.At column) slot =
-    bentX (e .weight) (signX e) (record {
-      trunk = both (leg .first) (ltb 0 offset);
-      own = not (leg .first);
-      start = both (leg .first) (sourceMarker e);
-      end = both (leg .last) (targetMarker e);
-      at = column;
-      x1 = leg .x1;
-      y1 = leg .y1;
-      x2 = leg .x2;
-      y2 = leg .y2;
-    }) slot
+    bentX (e .weight) (signX e) (legBend e offset leg column) slot
 
 unfoldable pub legX : Edge → ℕ → Leg → ℕ → Piece
 legX e offset leg slot =

@@ -1,0 +1,121 @@
+-- What the definitions of width and fitting amount to: the bisection finds the range that holds a value, and the fitting part is the longest prefix.
+use native.Mathlib.Omega.{arith}
+use Prim.Native.Nat.{ℕ, zero, suc, _+_, _-_, _*_, _≤_, _<_, zero-le, suc-le-suc}
+use mathlib.Core.Path.{_≡_, refl, sym, ap, _∙_}
+use mathlib.Core.List.{List, [], _∷_}
+use lib.Dec.{eqb, ltb, leb}
+use lib.ListN.{length, getD, take, length-take}
+use lib.Seq.{length-take-le}
+use borrow.Author.Tests.{lt-ltb, le-ltb, le-leb, lt-leb}
+use Rattle.glyph.specs.Width.{InOrder, bisect, middle, widthOf, firstOf, lastOf, rangeWidth, rangeCount}
+use Rattle.glyph.specs.Fitting.{columns, fitCount, fitting, LongestPrefix}
+use Rattle.glyph.proofs.Laws.{by-range}
+use Rattle.ground.proofs.Order.{by-order, by-three, pick-bound}
+
+range-bound : (t : List ℕ) (k : ℕ) → rangeWidth t k ≤ 2
+range-bound t k =
+    let word = getD t (3 * k + 2) 0 in
+    pick-bound (eqb word 0) 0 _ 2 (omega arith) (pick-bound (eqb word 2) 2 1 2 (omega arith) (omega arith))
+
+bisect-bound : (f : ℕ) (t : List ℕ) (v low high : ℕ) → bisect f t v low high ≤ 2
+unfolding bisect
+bisect-bound zero t v low high = omega arith
+bisect-bound (suc f) t v low high =
+    pick-bound (ltb low high) _ 1 2
+    (pick-bound (ltb v (firstOf t (middle low high))) _ _ 2 (bisect-bound f t v low (middle low high))
+    (pick-bound (ltb (lastOf t (middle low high)) v) _ _ 2 (bisect-bound f t v (middle low high + 1) high) (range-bound t (middle low high))))
+    (omega arith)
+
+-- No width is above 2.
+pub width-bound : (t : List ℕ) (v : ℕ) → widthOf t v ≤ 2
+unfolding widthOf
+width-bound t v = bisect-bound (rangeCount t) t v 0 (rangeCount t)
+
+bisect-other : (f : ℕ) (t : List ℕ) (v low high : ℕ) → high ≤ rangeCount t → ((k : ℕ) → k < rangeCount t → firstOf t k ≤ v → v ≤ lastOf t k → ⊥) → bisect f t v low high ≡ 1
+unfolding bisect
+bisect-other zero t v low high b none = refl
+bisect-other (suc f) t v low high b none =
+    by-order low high
+    (λ h. by-range t v (middle low high)
+    (λ p. simp (lt-ltb _ _ h, lt-ltb _ _ p) (bisect-other f t v low (middle low high) (omega arith) none))
+    (λ p q. simp (lt-ltb _ _ h, le-ltb _ _ p, lt-ltb _ _ q) (bisect-other f t v (middle low high + 1) high b none))
+    (λ p q. absurd (none (middle low high) (omega arith) p q)))
+    (λ h. simp (le-ltb _ _ h))
+
+-- A value that no range holds has width 1.
+pub width-other : (t : List ℕ) (v : ℕ) → ((k : ℕ) → k < rangeCount t → firstOf t k ≤ v → v ≤ lastOf t k → ⊥) → widthOf t v ≡ 1
+unfolding widthOf
+width-other t v none = bisect-other (rangeCount t) t v 0 (rangeCount t) (omega arith) none
+
+-- Of a table in order, a later range begins past the end of an earlier one.
+pub ranges-apart : (t : List ℕ) (j k : ℕ) → InOrder t → j < k → k < rangeCount t → lastOf t j < firstOf t k
+ranges-apart t j zero o h b = omega arith
+ranges-apart t j (suc k) o h b =
+    by-order j k
+    (λ p. omega (arith, ranges-apart t j k o p (omega arith), o .own k (omega arith), o .next k b))
+    (λ p. let e : j ≡ k = omega arith in rw e (o .next k b))
+
+bisect-held : (f : ℕ) (t : List ℕ) (v low high k : ℕ) → InOrder t → high - low ≤ f → high ≤ rangeCount t → low ≤ k → k < high → firstOf t k ≤ v → v ≤ lastOf t k
+    → bisect f t v low high ≡ rangeWidth t k
+unfolding bisect
+bisect-held zero t v low high k o e b l m p q = absurd (omega arith)
+bisect-held (suc f) t v low high k o e b l m p q =
+    let h : low < high = omega arith in
+    by-three k (middle low high)
+    (λ w. let u : v < firstOf t (middle low high) = omega (arith, ranges-apart t k (middle low high) o w (omega arith)) in
+    simp (lt-ltb _ _ h, lt-ltb _ _ u) (bisect-held f t v low (middle low high) k o (omega arith) (omega arith) l w p q))
+    (λ w. let u : lastOf t (middle low high) < v = omega (arith, ranges-apart t (middle low high) k o w (omega arith)) in
+    let x : firstOf t (middle low high) ≤ v = omega (arith, o .own (middle low high) (omega arith)) in
+    simp (lt-ltb _ _ h, le-ltb _ _ x, lt-ltb _ _ u) (bisect-held f t v (middle low high + 1) high k o (omega arith) b (omega arith) m p q))
+    (λ w. simp (lt-ltb _ _ h, sym w, le-ltb _ _ p, le-ltb _ _ q))
+
+-- A value that a range holds has that range's width.
+pub width-held : (t : List ℕ) (v k : ℕ) → InOrder t → k < rangeCount t → firstOf t k ≤ v → v ≤ lastOf t k → widthOf t v ≡ rangeWidth t k
+unfolding widthOf
+width-held t v k o h p q = bisect-held (rangeCount t) t v 0 (rangeCount t) k o (omega arith) (omega arith) (omega arith) h p q
+
+fit-count-le : (t : List ℕ) (room : ℕ) (label : List ℕ) → fitCount t room label ≤ length label
+unfolding fitCount
+fit-count-le t room [] = omega arith
+fit-count-le t room (ch ∷ label) = pick-bound (leb (widthOf t ch) room) _ _ _ (suc-le-suc (fit-count-le t (room - widthOf t ch) label)) zero-le
+
+fitting-length : (t : List ℕ) (room : ℕ) (label : List ℕ) → length (fitting t room label) ≡ fitCount t room label
+unfolding fitting
+fitting-length t room label = length-take-le _ _ (fit-count-le t room label)
+
+fitting-within : (t : List ℕ) (room : ℕ) (label : List ℕ) → columns t (take (fitCount t room label) label) ≤ room
+unfolding fitCount columns
+fitting-within t room [] = omega arith
+fitting-within t room (ch ∷ label) =
+    by-order room (widthOf t ch)
+    (λ h. simp (lt-leb _ _ h) (omega arith))
+    (λ h. simp (le-leb _ _ h) (omega (arith, fitting-within t (room - widthOf t ch) label)))
+
+no-longer : (t : List ℕ) (room : ℕ) (label : List ℕ) (n : ℕ) → n ≤ length label → columns t (take n label) ≤ room → n ≤ fitCount t room label
+unfolding fitCount columns
+no-longer t room label zero h p = omega arith
+no-longer t room [] (suc n) h p = omega arith
+no-longer t room (ch ∷ label) (suc n) h p =
+    let fits : widthOf t ch ≤ room = omega arith in
+    simp (le-leb _ _ fits) (omega (arith, no-longer t (room - widthOf t ch) label n (omega arith) (omega arith)))
+
+-- The fitting part is the longest prefix of the label within the room.
+pub fitting-longest : (t : List ℕ) (room : ℕ) (label : List ℕ) → LongestPrefix t room label (fitting t room label)
+unfolding fitting
+fitting-longest t room label =
+    record {
+      prefix = rw (fitting-length t room label);
+      within = fitting-within t room label;
+      longest = λ n h p. rw (fitting-length t room label) (no-longer t room label n h p);
+    }
+
+-- A prefix of the label that is longest within the room is the fitting part: there is no other.
+pub longest-unique : (t : List ℕ) (room : ℕ) (label part : List ℕ) → LongestPrefix t room label part → part ≡ fitting t room label
+longest-unique t room label part l =
+    let f = fitting-longest t room label in
+    let a : length part ≤ length label = omega (arith, ap length (l .prefix) ∙ length-take (length part) label) in
+    let b : length (fitting t room label) ≤ length label = omega (arith, fitting-length t room label, fit-count-le t room label) in
+    let c : length part ≤ length (fitting t room label) = f .longest (length part) a (rw (l .prefix) at (l .within)) in
+    let d : length (fitting t room label) ≤ length part = l .longest (length (fitting t room label)) b (rw (f .prefix) at (f .within)) in
+    let e : length part ≡ length (fitting t room label) = omega arith in
+    l .prefix ∙ ap (λ n. take n label) e ∙ sym (f .prefix)

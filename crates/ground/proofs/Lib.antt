@@ -1,0 +1,2 @@
+-- Laws that every layer shares.
+pub mod Order
