@@ -1,2 +1,3 @@
 -- What document 01 says of one cell.
 pub mod OneCell
+pub mod ProofTable

@@ -10,10 +10,10 @@ bound = 0x1000000000000
 
 pub record SmallBend (v : Bend) : Type 0 where
   pub at : v .at < bound
-  pub x1 : v .x1 < bound
-  pub y1 : v .y1 < bound
-  pub x2 : v .x2 < bound
-  pub y2 : v .y2 < bound
+  pub x1 : v .x1 < 0x100000000
+  pub y1 : v .y1 < 0x100000000
+  pub x2 : v .x2 < 0x100000000
+  pub y2 : v .y2 < 0x100000000
 
 pub record SmallLeg (leg : Leg) : Type 0 where
   pub x1 : leg .x1 < 0x100000000

@@ -96,7 +96,7 @@ sideX e channel start end slot =
     (pick (eqb slot 5) (crossLineX end channel (e .«to_y»))
     (pick (eqb slot 6) (crossFirstX (e .weight) (signX e) false end channel (e .«to_y»))
     (pick (eqb slot 7) (crossLastX (e .weight) (signX e) end channel (e .«to_y»))
-    (tailX (signX e) (targetMarker e) (e .«to_y») end (e .«to_x»))))))))))
+    (tailX (signX e) (targetMarker e) (e .«to_y») end (e .«to_x»)))))))))
 
 -- MultiSegment: equal y gives a horizontal (start arrow on the first leg beats end arrow on the last); every later leg strokes the horizontal at its start
 unfoldable pub straightLineX : Edge → Leg → Piece

@@ -93,7 +93,7 @@ sideY e channel start end slot =
     (pick (eqb slot 4) (crossRunY end channel (e .«to_x»))
     (pick (eqb slot 5) (crossFirstY (e .weight) (signY e) false end channel (e .«to_x»))
     (pick (eqb slot 6) (crossLastY (e .weight) (signY e) end channel (e .«to_x»))
-    (tailY (signY e) (targetMarker e) (e .«to_x») end (e .«to_y»)))))))))
+    (tailY (signY e) (targetMarker e) (e .«to_x») end (e .«to_y»))))))))
 
 -- "MultiSegment, legs through the points: equal x gives a vertical (start arrow on the first leg beats end arrow on the last)."
 unfoldable pub straightLineY : Edge → Leg → Piece

@@ -4,7 +4,7 @@ ghost use mathlib.Core.Path.{_≡_};
 ghost use Prim.Native.Nat.{_+_, _≤_, _<_};
 ghost use Rattle.path.specs.Flow.{flowSign, along, sourceMarker, targetMarker, headAt, startHead, endHead, lineOf};
 ghost use Rattle.path.specs.Flow.{vertical, horizontal, armIf, corner, cornerBend, legBend, cornerSteps};
-ghost use Rattle.path.specs.Bounds.{bound, SmallBend, SmallLeg};
+ghost use Rattle.path.specs.Bounds.{bound, SmallBend, SmallLeg, SmallPlace};
 ghost use Rattle.ground.specs.Choice.{both};
 use cell::Arms;
 use cell::Dir;
@@ -96,8 +96,8 @@ pub enum Rows {
 
 // from + s·steps. "signed 64-bit sums, compared before any cast"
 pub fn along(s: bool, from: usize, steps: usize) -> Place
-    requires { ⌜ (from < 0x1000000000000) × (steps < 0x1000000000000) ⌝ }
-    ensures { λ r. ⌜ r ≡ along s from steps ⌝ }
+    requires { ⌜ (from < 0x800000000000) × (steps < 0x800000000000) ⌝ }
+    ensures { λ r. ⌜ (r ≡ along s from steps) × SmallPlace r ⌝ }
 {
     let start = from as i64;
     let by = steps as i64;
@@ -144,7 +144,7 @@ fn head_at(wanted: bool, place: Place, dir: Dir) -> Head
 
 // "a start arrow points −s at from y + s"
 pub fn start_head(wanted: bool, s: bool, from: usize, dir: Dir) -> Head
-    requires { ⌜ from < 0x1000000000000 ⌝ }
+    requires { ⌜ from < 0x800000000000 ⌝ }
     ensures { λ r. ⌜ r ≡ startHead wanted s from dir ⌝ }
 {
     head_at(wanted, along(s, from, 1), dir)
@@ -152,7 +152,7 @@ pub fn start_head(wanted: bool, s: bool, from: usize, dir: Dir) -> Head
 
 // "An end arrow points s at to y − s"
 pub fn end_head(wanted: bool, s: bool, to: usize, dir: Dir) -> Head
-    requires { ⌜ to < 0x1000000000000 ⌝ }
+    requires { ⌜ to < 0x800000000000 ⌝ }
     ensures { λ r. ⌜ r ≡ endHead wanted s to dir ⌝ }
 {
     head_at(wanted, along(!s, to, 1), dir)

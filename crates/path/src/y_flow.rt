@@ -136,7 +136,7 @@ fn own_start(w: Weight, own: bool, x: usize, y: usize) -> Piece
 }
 
 fn tail(s: bool, wanted: bool, x: usize, from: usize, to: usize) -> Piece
-    requires { ⌜ to < 0x1000000000000 ⌝ }
+    requires { ⌜ to < 0x800000000000 ⌝ }
     ensures { λ r. ⌜ r ≡ tailY s wanted x from to ⌝ }
 {
     let head = crate::end_head(wanted, s, to, with_flow(s));
@@ -232,7 +232,7 @@ fn straight(e: Edge, leg: Leg, slot: usize) -> Piece
 // "the corner row is py + s·(1 + offset on the first leg, 0 later)"
 pub fn corner_row(e: Edge, offset: u32, leg: Leg) -> Place
     requires { ⌜ SmallLeg leg ⌝ }
-    ensures { λ r. ⌜ r ≡ cornerRow e offset leg ⌝ }
+    ensures { λ r. ⌜ (r ≡ cornerRow e offset leg) × SmallPlace r ⌝ }
 {
     crate::along(sign(e), leg.y1, crate::corner_steps(offset, leg))
 }

@@ -1,0 +1,184 @@
+-- Laws over plain values, which the functions' proofs and the theorems cite.
+use Prim.Native.Nat.{ℕ, _+_, _*_, _/_, _%_, _≤_, _<_}
+use native.Mathlib.Omega.{arith}
+use mathlib.Core.Path.{_≡_, refl, ap, _∙_}
+use mathlib.Core.Bool.{Bool, true, false}
+use mathlib.Core.List.{List, [], _∷_}
+use lib.Dec.{eqb}
+use borrow.Author.Tests.{le-leb, lt-leb}
+use types.Run.{OneOf, miss}
+use denote.Enum.Declared.{tagOf}
+use Rattle.ground.specs.Choice.{pick}
+use Rattle.cell.specs.declared.Weight.{Weight}
+use Rattle.cell.specs.declared.Weight.the-variants as weight
+use Rattle.cell.specs.declared.MarkerKind.{MarkerKind}
+use Rattle.cell.specs.declared.MarkerKind.the-variants.{Arrow, SelfLoop, Dummy}
+use Rattle.cell.specs.declared.Dir.{Dir}
+use Rattle.cell.specs.declared.Dir.the-variants.{Up, Down, Left, Right}
+use Rattle.cell.specs.declared.Arms.{Arms}
+use Rattle.cell.specs.declared.Parts.{Parts}
+use Rattle.cell.specs.declared.Parts.the-variants.{Empty, Text, Continuation, Stroke, Marker}
+use Rattle.cell.specs.OneCell.{weightNumber, kindNumber, dirNumber, weightOf, kindOf, dirOf}
+use Rattle.cell.specs.OneCell.{packArms, packMarker, pack, readArms, readText, readMarker, read, Valid}
+use Rattle.cell.specs.OneCell.{heavier, hasDouble, doubleOnMarker, strokeOn, markerOn}
+use Rattle.cell.proofs.Parts.{the-type}
+
+-- the heavier of two weights, where the first is it
+pub heavier-first : (a b : Weight) → weightNumber b ≤ weightNumber a → a ≡ heavier a b
+heavier-first a b h = simp (le-leb _ _ h)
+
+-- and where the second is
+pub heavier-second : (a b : Weight) → weightNumber a < weightNumber b → b ≡ heavier a b
+heavier-second a b h = simp (lt-leb _ _ h)
+
+-- the numbers of the variants of `Parts` that are neither text nor a continuation
+abbrev no-text : List ℕ
+no-text = 0 ∷ 3 ∷ 4 ∷ []
+
+-- a marker on what is neither text nor a continuation
+pub marked-rest :
+    (kind : MarkerKind) (dir : Dir) (dashed : Bool) (p : Parts) →
+    OneOf no-text (tagOf the-type p) →
+    Marker kind dir dashed ≡ markerOn kind dir dashed p
+unfolding markerOn
+marked-rest kind dir dashed Empty h = refl
+marked-rest kind dir dashed (Text ch) h = absurd (miss no-text 1 tt h)
+marked-rest kind dir dashed Continuation h = absurd (miss no-text 2 tt h)
+marked-rest kind dir dashed (Stroke arms) h = refl
+marked-rest kind dir dashed (Marker k d x) h = refl
+
+-- The numbers are small, and what they stand for is what they are the numbers of.
+
+pub weight-small : (w : Weight) → weightNumber w ≤ 3
+weight-small weight.None = omega arith
+weight-small weight.Dashed = omega arith
+weight-small weight.Light = omega arith
+weight-small weight.Double = omega arith
+
+pub kind-small : (k : MarkerKind) → kindNumber k ≤ 3
+kind-small Arrow = omega arith
+kind-small SelfLoop = omega arith
+kind-small Dummy = omega arith
+
+pub dir-small : (d : Dir) → dirNumber d ≤ 3
+dir-small Up = omega arith
+dir-small Down = omega arith
+dir-small Left = omega arith
+dir-small Right = omega arith
+
+pub dashed-small : (b : Bool) → pick b 1 0 ≤ 1
+dashed-small true = omega arith
+dashed-small false = omega arith
+
+weight-back : (w : Weight) → weightOf (weightNumber w) ≡ w
+weight-back weight.None = refl
+weight-back weight.Dashed = refl
+weight-back weight.Light = refl
+weight-back weight.Double = refl
+
+kind-back : (k : MarkerKind) → kindOf (kindNumber k) ≡ k
+kind-back Arrow = refl
+kind-back SelfLoop = refl
+kind-back Dummy = refl
+
+dir-back : (d : Dir) → dirOf (dirNumber d) ≡ d
+dir-back Up = refl
+dir-back Down = refl
+dir-back Left = refl
+dir-back Right = refl
+
+dashed-back : (b : Bool) → eqb (pick b 1 0) 1 ≡ b
+dashed-back true = refl
+dashed-back false = refl
+
+-- The fields of a word that is a packing.
+
+stroke-fields :
+    (u d l r w : ℕ) →
+    u ≤ 3 →
+    d ≤ 3 →
+    l ≤ 3 →
+    r ≤ 3 →
+    w ≡ 0x80000000 + (u + 8 * d + 64 * l + 512 * r) →
+    (w / 0x40000000 ≡ 2) × (w % 8 ≡ u) × (w / 8 % 8 ≡ d) × (w / 64 % 8 ≡ l) × (w / 512 % 8 ≡ r)
+stroke-fields u d l r w hu hd hl hr e = omega arith
+
+marker-fields :
+    (k d x w : ℕ) →
+    k ≤ 3 →
+    d ≤ 3 →
+    x ≤ 1 →
+    w ≡ 0xC0000000 + (k + 16 * d + 64 * x) →
+    (w / 0x40000000 ≡ 3) × (w % 16 ≡ k) × (w / 16 % 4 ≡ d) × (w / 64 % 2 ≡ x)
+marker-fields k d x w hk hd hx e = omega arith
+
+text-fields :
+    (ch w : ℕ) →
+    ch ≤ 0x10FFFF →
+    w ≡ 0x40000000 + ch % 0x200000 →
+    (w / 0x40000000 ≡ 1) × (w / 0x200000 % 2 ≡ 0) × (w % 0x200000 ≡ ch)
+text-fields ch w h e = omega arith
+
+pub read-stroke : (a : Arms) (w : ℕ) → w ≡ pack (Stroke a) → read w ≡ Stroke a
+unfolding pack packArms read readArms
+read-stroke a w e =
+    let u = weight-small (a .up) in
+    let d = weight-small (a .down) in
+    let l = weight-small (a .left) in
+    let r = weight-small (a .right) in
+    let f = stroke-fields _ _ _ _ w u d l r e in
+    let up : weightOf (w % 8) ≡ a .up = ap weightOf (f .1) ∙ weight-back _ in
+    let down : weightOf (w / 8 % 8) ≡ a .down = ap weightOf (f .2) ∙ weight-back _ in
+    let left : weightOf (w / 64 % 8) ≡ a .left = ap weightOf (f .3) ∙ weight-back _ in
+    let right : weightOf (w / 512 % 8) ≡ a .right = ap weightOf (f .4) ∙ weight-back _ in
+    rw (f .0, up, down, left, right)
+
+pub read-marker :
+    (k : MarkerKind) (d : Dir) (x : Bool) (w : ℕ) →
+    w ≡ pack (Marker k d x) →
+    read w ≡ Marker k d x
+unfolding pack packMarker read readMarker
+read-marker k d x w e =
+    let f = marker-fields _ _ _ w (kind-small k) (dir-small d) (dashed-small x) e in
+    let kind : kindOf (w % 16) ≡ k = ap kindOf (f .1) ∙ kind-back _ in
+    let dir : dirOf (w / 16 % 4) ≡ d = ap dirOf (f .2) ∙ dir-back _ in
+    let dashed : eqb (w / 64 % 2) 1 ≡ x = ap (λ (n : ℕ). eqb n 1) (f .3) ∙ dashed-back _ in
+    rw (f .0) (cc)
+
+pub read-text : (ch w : ℕ) → ch ≤ 0x10FFFF → w ≡ pack (Text ch) → read w ≡ Text ch
+unfolding pack read readText
+read-text ch w h e =
+    let f = text-fields ch w h e in
+    rw (f .0, f .1, f .2)
+
+-- A stroke or a marker on valid parts leaves valid parts.
+
+-- what holds of both holds of the one that a test picks
+pick-holds : {A : Type 0} (P : A → Type 0) (t : Bool) {a b : A} → P a → P b → P (pick t a b)
+pick-holds P true p q = p
+pick-holds P false p q = q
+
+double-valid : (new : Arms) (k : MarkerKind) (d : Dir) → Valid (doubleOnMarker new k d)
+unfolding Valid doubleOnMarker
+double-valid new Arrow d = tt
+double-valid new SelfLoop d = tt
+double-valid new Dummy d = tt
+
+pub stroke-valid : (new : Arms) (p : Parts) → Valid p → Valid (strokeOn new p)
+unfolding Valid strokeOn
+stroke-valid new Empty h = tt
+stroke-valid new (Text ch) h = pick-holds Valid (hasDouble new) tt h
+stroke-valid new Continuation h = pick-holds Valid (hasDouble new) tt h
+stroke-valid new (Stroke old) h = tt
+stroke-valid new (Marker k d x) h = pick-holds Valid (hasDouble new) (double-valid new k d) h
+
+pub marker-valid :
+    (kind : MarkerKind) (dir : Dir) (dashed : Bool) (p : Parts) →
+    Valid p →
+    Valid (markerOn kind dir dashed p)
+unfolding Valid markerOn
+marker-valid kind dir dashed Empty h = tt
+marker-valid kind dir dashed (Text ch) h = h
+marker-valid kind dir dashed Continuation h = h
+marker-valid kind dir dashed (Stroke arms) h = tt
+marker-valid kind dir dashed (Marker k d x) h = tt

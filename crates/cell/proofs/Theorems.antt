@@ -1,0 +1,88 @@
+-- What holds of one cell's packing, and of the rules on words.
+use Prim.Native.Nat.{ℕ, _≤_, _<_}
+use native.Mathlib.Omega.{arith}
+use mathlib.Core.Bool.{Bool, true, false}
+use mathlib.Core.Path.{_≡_, refl}
+use Rattle.cell.specs.declared.Parts.{Parts}
+use Rattle.cell.specs.declared.Parts.the-variants.{Empty, Text, Continuation, Stroke, Marker}
+use Rattle.cell.specs.declared.Arms.{Arms}
+use Rattle.cell.specs.declared.MarkerKind.{MarkerKind}
+use Rattle.cell.specs.declared.Dir.{Dir}
+use Rattle.cell.specs.OneCell.{packArms, packMarker, pack, readArms, readText, readMarker, read, Valid, Packed}
+use Rattle.cell.specs.OneCell.{heavierArms, hasDouble, doubleOnMarker, strokeOn, markerOn, strokeCell, markerCell, textCell}
+use Rattle.cell.specs.ProofTable.{ProofTableCell}
+use Rattle.cell.proofs.Laws.{weight-small, kind-small, dir-small, dashed-small}
+use Rattle.cell.proofs.Laws.{read-stroke, read-marker, read-text, stroke-valid, marker-valid}
+
+-- Reading a packing gives the parts back.
+pub read-pack : (p : Parts) → Valid p → read (pack p) ≡ p
+unfolding Valid pack read readText
+read-pack Empty h = refl
+read-pack (Text ch) h = read-text ch _ h refl
+read-pack Continuation h = refl
+read-pack (Stroke a) h = read-stroke a _ refl
+read-pack (Marker k d x) h = read-marker k d x _ refl
+
+-- Packing what a packed word reads as gives the word back.
+pub pack-read : (w : ℕ) → Packed w → pack (read w) ≡ w
+pack-read w h = rw (h .packing, read-pack (h .parts) (h .valid))
+
+-- Every packing fits a word of 32 bits.
+pub pack-fits : (p : Parts) → pack p < 4294967296
+unfolding pack packArms packMarker
+pack-fits Empty = omega arith
+pack-fits (Text ch) = omega arith
+pack-fits Continuation = omega arith
+pack-fits (Stroke a) =
+    omega (arith, weight-small (a .up), weight-small (a .down), weight-small (a .left), weight-small (a .right))
+pack-fits (Marker k d x) = omega (arith, kind-small k, dir-small d, dashed-small x)
+
+-- The empty cell is a packing.
+pub empty-packed : Packed 0
+unfolding Valid pack
+empty-packed = record { parts = Empty; valid = tt; packing = refl }
+
+-- The continuation, the second column of a wide glyph, is a packing.
+pub continuation-packed : Packed 0x40200000
+unfolding Valid pack
+continuation-packed = record { parts = Continuation; valid = tt; packing = refl }
+
+-- What a packed word reads as is valid.
+read-valid : (w : ℕ) → Packed w → Valid (read w)
+read-valid w h = rw (h .packing, read-pack (h .parts) (h .valid)) (h .valid)
+
+-- A stroke on a packed word leaves a packed word.
+pub stroke-packed : (new : Arms) (w : ℕ) → Packed w → Packed (strokeCell new w)
+unfolding strokeCell
+stroke-packed new w h = record {
+  parts = strokeOn new (read w);
+  valid = stroke-valid new (read w) (read-valid w h);
+  packing = refl;
+}
+
+-- A marker on a packed word leaves a packed word.
+pub marker-packed :
+    (kind : MarkerKind) (dir : Dir) (dashed : Bool) (w : ℕ) →
+    Packed w →
+    Packed (markerCell kind dir dashed w)
+unfolding markerCell
+marker-packed kind dir dashed w h = record {
+  parts = markerOn kind dir dashed (read w);
+  valid = marker-valid kind dir dashed (read w) (read-valid w h);
+  packing = refl;
+}
+
+-- Text of a Unicode code point on any word leaves a packed word.
+pub text-packed : (ch w : ℕ) → ch ≤ 0x10FFFF → Packed (textCell ch w)
+unfolding textCell Valid
+text-packed ch w h = record { parts = Text ch; valid = h; packing = refl }
+
+-- The cases P1 to P4 of the proof table hold.
+pub proof-table-cell : ProofTableCell
+unfolding packArms packMarker pack readArms readText readMarker read heavierArms hasDouble doubleOnMarker strokeOn strokeCell
+proof-table-cell = record {
+  p1 = refl;
+  p2 = λ dashed. elim dashed [ true ↦ refl | false ↦ refl ];
+  p3 = refl;
+  p4 = refl;
+}

@@ -1,0 +1,45 @@
+-- `double_on_marker` lays a stroke with a Double arm on a marker of each kind.
+use borrow.Author.Needs.{needs}
+use Rattle.cell.specs.OneCell.{doubleOnMarker}
+use Rattle.cell.proofs.double_on_marker.Statement.{statement}
+use Rattle.cell.proofs.double_on_marker.Tie as tie
+
+enum-told : tie.Need-enum-told
+enum-told c = search needs
+
+stem-requires : tie.Need-stem-requires
+stem-requires c κs = search needs
+
+max-requires : tie.Need-max-requires
+max-requires c κs = search needs
+
+enum-told-2 : tie.Need-enum-told-2
+enum-told-2 c = search needs
+
+enum-told-3 : tie.Need-enum-told-3
+enum-told-3 c = search needs
+
+returns : tie.Need-returns
+unfolding doubleOnMarker
+returns c = rw (c .before .before .enum-told .given .1) (cc)
+
+returns-2 : tie.Need-returns-2
+unfolding doubleOnMarker
+returns-2 c = rw (c .enum-told2 .given .1)
+
+returns-3 : tie.Need-returns-3
+unfolding doubleOnMarker
+returns-3 c = rw (c .enum-told3 .given .1)
+
+pub double-on-marker-spec : {M : Type 1} → statement M
+double-on-marker-spec =
+    tie.close
+    (tie.spec
+    enum-told
+    stem-requires
+    max-requires
+    enum-told-2
+    enum-told-3
+    returns
+    returns-2
+    returns-3)

@@ -1,0 +1,29 @@
+-- The cases of document 01's proof table that speak of one cell, P1 to P4, on words.
+use mathlib.Core.Bool.{Bool}
+use mathlib.Core.Path.{_≡_}
+use Rattle.cell.specs.declared.Weight.{Weight}
+use Rattle.cell.specs.declared.Weight.the-variants.{None, Light, Double}
+use Rattle.cell.specs.declared.MarkerKind.the-variants.{Arrow}
+use Rattle.cell.specs.declared.Dir.the-variants.{Down}
+use Rattle.cell.specs.declared.Arms.{Arms}
+use Rattle.cell.specs.declared.Parts.the-variants.{Text, Marker}
+use Rattle.cell.specs.OneCell.{pack, strokeCell}
+
+-- the arms of a vertical line of a weight, where it passes through a cell
+abbrev pub vertical : Weight → Arms
+vertical w = record { up = w; down = w; left = None; right = None }
+
+-- the arms of a horizontal line of a weight, where it passes through a cell
+abbrev pub horizontal : Weight → Arms
+horizontal w = record { up = None; down = None; left = w; right = w }
+
+-- one statement of the four
+pub record ProofTableCell : Type 0 where
+  -- P1: empty + Light vertical + Light horizontal is 80000492
+  pub p1 : strokeCell (horizontal Light) (strokeCell (vertical Light) 0) ≡ 0x80000492
+  -- P2: Arrow Down + Double horizontal is 800006D0, whether the arrow's edge is dashed or not
+  pub p2 : (dashed : Bool) → strokeCell (horizontal Double) (pack (Marker Arrow Down dashed)) ≡ 0x800006D0
+  -- P3: `A` + Light horizontal is 40000041
+  pub p3 : strokeCell (horizontal Light) (pack (Text 0x41)) ≡ 0x40000041
+  -- P4: `A` + Double horizontal is 800006C0
+  pub p4 : strokeCell (horizontal Double) (pack (Text 0x41)) ≡ 0x800006C0
