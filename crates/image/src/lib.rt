@@ -34,26 +34,30 @@ pub struct Header {
     pub show_dummies: bool,
 }
 
-fn policy_from(avoid: bool) -> LabelPolicy
-    ensures { λ r. ⌜ r ≡ policyOf avoid ⌝ }
-{
-    if avoid {
-        LabelPolicy::AvoidNodeRows
-    } else {
-        LabelPolicy::Geometric
+impl LabelPolicy {
+    pub fn from_bit(avoid: bool) -> LabelPolicy
+        ensures { λ r. ⌜ r ≡ policyOf avoid ⌝ }
+    {
+        if avoid {
+            LabelPolicy::AvoidNodeRows
+        } else {
+            LabelPolicy::Geometric
+        }
     }
 }
 
-pub fn header(image: &[u32]) -> Header
-    ensures { λ r. ⌜ r ≡ headerOf (now (image .entry)) ⌝ }
-{
-    let flags = word(image, 3);
-    Header {
-        width: word(image, 0),
-        height: word(image, 1),
-        run_capacity: word(image, 2),
-        policy: policy_from(flag(flags, 0x8000_0000)),
-        show_dummies: flag(flags, 0x4000_0000),
+impl Header {
+    pub fn read(image: &[u32]) -> Header
+        ensures { λ r. ⌜ r ≡ headerOf (now (image .entry)) ⌝ }
+    {
+        let flags = word(image, 3);
+        Header {
+            width: word(image, 0),
+            height: word(image, 1),
+            run_capacity: word(image, 2),
+            policy: LabelPolicy::from_bit(flag(flags, 0x8000_0000)),
+            show_dummies: flag(flags, 0x4000_0000),
+        }
     }
 }
 
@@ -109,32 +113,34 @@ pub struct Tables {
     pub ranges: Table,
 }
 
-// "Tables follow in that order"
-pub fn tables(image: &[u32]) -> Tables
-    ensures { λ r. ⌜ r ≡ tablesOf (now (image .entry)) ⌝ }
-    ensures { λ r. ⌜ AllSmall r ⌝ }
-{
-    let nodes = Table {
-        start: 12,
-        count: ground::wide(word(image, 4)),
-        size: 9,
-    };
-    let edges = nodes.after(word(image, 5), 12);
-    let subgraphs = edges.after(word(image, 6), 8);
-    let labels = subgraphs.after(word(image, 7), 4);
-    let elements = labels.after(word(image, 8), 4);
-    let points = elements.after(word(image, 9), 2);
-    let glyphs = points.after(word(image, 10), 1);
-    let ranges = glyphs.after(word(image, 11), 3);
-    Tables {
-        nodes: nodes,
-        edges: edges,
-        subgraphs: subgraphs,
-        labels: labels,
-        elements: elements,
-        points: points,
-        glyphs: glyphs,
-        ranges: ranges,
+impl Tables {
+    // "Tables follow in that order"
+    pub fn read(image: &[u32]) -> Tables
+        ensures { λ r. ⌜ r ≡ tablesOf (now (image .entry)) ⌝ }
+        ensures { λ r. ⌜ AllSmall r ⌝ }
+    {
+        let nodes = Table {
+            start: 12,
+            count: ground::wide(word(image, 4)),
+            size: 9,
+        };
+        let edges = nodes.after(word(image, 5), 12);
+        let subgraphs = edges.after(word(image, 6), 8);
+        let labels = subgraphs.after(word(image, 7), 4);
+        let elements = labels.after(word(image, 8), 4);
+        let points = elements.after(word(image, 9), 2);
+        let glyphs = points.after(word(image, 10), 1);
+        let ranges = glyphs.after(word(image, 11), 3);
+        Tables {
+            nodes: nodes,
+            edges: edges,
+            subgraphs: subgraphs,
+            labels: labels,
+            elements: elements,
+            points: points,
+            glyphs: glyphs,
+            ranges: ranges,
+        }
     }
 }
 
@@ -184,54 +190,62 @@ pub struct Node {
     pub self_loop: SelfLoop,
 }
 
-fn node_kind_from(n: u32) -> NodeKind
-    ensures { λ r. ⌜ r ≡ nodeKindOf n ⌝ }
-{
-    match n {
-        0 => NodeKind::Simple,
-        1 => NodeKind::Boxed,
-        2 => NodeKind::Blank,
-        _ => NodeKind::Dummy,
+impl NodeKind {
+    pub fn from_bits(n: u32) -> NodeKind
+        ensures { λ r. ⌜ r ≡ nodeKindOf n ⌝ }
+    {
+        match n {
+            0 => NodeKind::Simple,
+            1 => NodeKind::Boxed,
+            2 => NodeKind::Blank,
+            _ => NodeKind::Dummy,
+        }
     }
 }
 
-fn self_loop_from(present: bool, x: u32, y: u32) -> SelfLoop
-    ensures { λ r. ⌜ r ≡ selfLoopFrom present x y ⌝ }
-{
-    if present {
-        SelfLoop::At { x: x, y: y }
-    } else {
-        SelfLoop::None
+impl SelfLoop {
+    pub fn from_bit(present: bool, x: u32, y: u32) -> SelfLoop
+        ensures { λ r. ⌜ r ≡ selfLoopFrom present x y ⌝ }
+    {
+        if present {
+            SelfLoop::At { x: x, y: y }
+        } else {
+            SelfLoop::None
+        }
     }
 }
 
-pub fn node_from(image: &[u32], at: usize) -> Node
-    requires { ⌜ at < 0x20000000000 ⌝ }
-    ensures { λ r. ⌜ r ≡ nodeFrom (now (image .entry)) at ⌝ }
-{
-    let flags = word(image, at + 6);
-    Node {
-        x: word(image, at),
-        y: word(image, at + 1),
-        width: word(image, at + 2),
-        height: word(image, at + 3),
-        label: span_from(image, at + 4),
-        kind: node_kind_from(flags / 0x4000_0000),
-        self_loop: self_loop_from(
-            flag(flags, 0x2000_0000),
-            word(image, at + 7),
-            word(image, at + 8),
-        ),
+impl Node {
+    pub fn read(image: &[u32], at: usize) -> Node
+        requires { ⌜ at < 0x20000000000 ⌝ }
+        ensures { λ r. ⌜ r ≡ nodeFrom (now (image .entry)) at ⌝ }
+    {
+        let flags = word(image, at + 6);
+        Node {
+            x: word(image, at),
+            y: word(image, at + 1),
+            width: word(image, at + 2),
+            height: word(image, at + 3),
+            label: Span::read(image, at + 4),
+            kind: NodeKind::from_bits(flags / 0x4000_0000),
+            self_loop: SelfLoop::from_bit(
+                flag(flags, 0x2000_0000),
+                word(image, at + 7),
+                word(image, at + 8),
+            ),
+        }
     }
 }
 
-fn span_from(image: &[u32], at: usize) -> Span
-    requires { ⌜ at < 0x30000000000 ⌝ }
-    ensures { λ r. ⌜ r ≡ spanFrom (now (image .entry)) at ⌝ }
-{
-    Span {
-        start: word(image, at),
-        count: word(image, at + 1),
+impl Span {
+    pub fn read(image: &[u32], at: usize) -> Span
+        requires { ⌜ at < 0x30000000000 ⌝ }
+        ensures { λ r. ⌜ r ≡ spanFrom (now (image .entry)) at ⌝ }
+    {
+        Span {
+            start: word(image, at),
+            count: word(image, at + 1),
+        }
     }
 }
 
@@ -278,68 +292,76 @@ pub struct Edge {
     pub label_colour: u32,
 }
 
-fn path_from(kind: u32, a: u32, b: u32, c: u32) -> Path
-    ensures { λ r. ⌜ r ≡ pathFrom kind a b c ⌝ }
-{
-    match kind {
-        1 => Path::Corner(a),
-        2 => Path::SideChannel {
-            channel: a,
-            span_start: b,
-            span_end: c,
-        },
-        3 => Path::MultiSegment {
-            points: Span { start: a, count: b },
-            start_offset: c,
-        },
-        4 => Path::Orthogonal(Span { start: a, count: b }),
-        5 => Path::Spline,
-        _ => Path::Direct,
+impl Path {
+    pub fn from_words(kind: u32, a: u32, b: u32, c: u32) -> Path
+        ensures { λ r. ⌜ r ≡ pathFrom kind a b c ⌝ }
+    {
+        match kind {
+            1 => Path::Corner(a),
+            2 => Path::SideChannel {
+                channel: a,
+                span_start: b,
+                span_end: c,
+            },
+            3 => Path::MultiSegment {
+                points: Span { start: a, count: b },
+                start_offset: c,
+            },
+            4 => Path::Orthogonal(Span { start: a, count: b }),
+            5 => Path::Spline,
+            _ => Path::Direct,
+        }
     }
 }
 
-fn axis_from(across: bool) -> FlowAxis
-    ensures { λ r. ⌜ r ≡ axisOf across ⌝ }
-{
-    if across { FlowAxis::X } else { FlowAxis::Y }
-}
-
-fn label_from(present: bool, label: Span) -> EdgeLabel
-    ensures { λ r. ⌜ r ≡ labelFrom present label ⌝ }
-{
-    if present {
-        EdgeLabel::Present(label)
-    } else {
-        EdgeLabel::None
+impl FlowAxis {
+    pub fn from_bit(across: bool) -> FlowAxis
+        ensures { λ r. ⌜ r ≡ axisOf across ⌝ }
+    {
+        if across { FlowAxis::X } else { FlowAxis::Y }
     }
 }
 
-pub fn edge_from(image: &[u32], at: usize) -> Edge
-    requires { ⌜ at < 0x20000000000 ⌝ }
-    ensures { λ r. ⌜ r ≡ edgeFrom (now (image .entry)) at ⌝ }
-{
-    let flags = word(image, at + 4);
-    let path = path_from(
-        flags / 0x2000_0000,
-        word(image, at + 5),
-        word(image, at + 6),
-        word(image, at + 7),
-    );
-    let label = label_from(flag(flags, 0x0040_0000), span_from(image, at + 8));
-    Edge {
-        from_x: word(image, at),
-        from_y: word(image, at + 1),
-        to_x: word(image, at + 2),
-        to_y: word(image, at + 3),
-        path: path,
-        flow_axis: axis_from(flag(flags, 0x1000_0000)),
-        reversed: flag(flags, 0x0800_0000),
-        start_marker: flag(flags, 0x0400_0000),
-        end_marker: flag(flags, 0x0200_0000),
-        weight: Weight::from_bits(flags / 0x0080_0000 % 4),
-        label: label,
-        colour: word(image, at + 10),
-        label_colour: word(image, at + 11),
+impl EdgeLabel {
+    pub fn from_bit(present: bool, label: Span) -> EdgeLabel
+        ensures { λ r. ⌜ r ≡ labelFrom present label ⌝ }
+    {
+        if present {
+            EdgeLabel::Present(label)
+        } else {
+            EdgeLabel::None
+        }
+    }
+}
+
+impl Edge {
+    pub fn read(image: &[u32], at: usize) -> Edge
+        requires { ⌜ at < 0x20000000000 ⌝ }
+        ensures { λ r. ⌜ r ≡ edgeFrom (now (image .entry)) at ⌝ }
+    {
+        let flags = word(image, at + 4);
+        let path = Path::from_words(
+            flags / 0x2000_0000,
+            word(image, at + 5),
+            word(image, at + 6),
+            word(image, at + 7),
+        );
+        let label = EdgeLabel::from_bit(flag(flags, 0x0040_0000), Span::read(image, at + 8));
+        Edge {
+            from_x: word(image, at),
+            from_y: word(image, at + 1),
+            to_x: word(image, at + 2),
+            to_y: word(image, at + 3),
+            path: path,
+            flow_axis: FlowAxis::from_bit(flag(flags, 0x1000_0000)),
+            reversed: flag(flags, 0x0800_0000),
+            start_marker: flag(flags, 0x0400_0000),
+            end_marker: flag(flags, 0x0200_0000),
+            weight: Weight::from_bits(flags / 0x0080_0000 % 4),
+            label: label,
+            colour: word(image, at + 10),
+            label_colour: word(image, at + 11),
+        }
     }
 }
 
@@ -359,30 +381,34 @@ pub struct Subgraph {
     pub colour: u32,
 }
 
-fn position_from(bottom: bool) -> LabelPosition
-    ensures { λ r. ⌜ r ≡ positionOf bottom ⌝ }
-{
-    if bottom {
-        LabelPosition::InsideBottom
-    } else {
-        LabelPosition::InsideTop
+impl LabelPosition {
+    pub fn from_bit(bottom: bool) -> LabelPosition
+        ensures { λ r. ⌜ r ≡ positionOf bottom ⌝ }
+    {
+        if bottom {
+            LabelPosition::InsideBottom
+        } else {
+            LabelPosition::InsideTop
+        }
     }
 }
 
-pub fn subgraph_from(image: &[u32], at: usize) -> Subgraph
-    requires { ⌜ at < 0x20000000000 ⌝ }
-    ensures { λ r. ⌜ r ≡ subgraphFrom (now (image .entry)) at ⌝ }
-{
-    let flags = word(image, at + 6);
-    Subgraph {
-        x: word(image, at),
-        y: word(image, at + 1),
-        width: word(image, at + 2),
-        height: word(image, at + 3),
-        label: span_from(image, at + 4),
-        border: Weight::from_bits(flags / 0x4000_0000),
-        position: position_from(flag(flags, 0x2000_0000)),
-        colour: word(image, at + 7),
+impl Subgraph {
+    pub fn read(image: &[u32], at: usize) -> Subgraph
+        requires { ⌜ at < 0x20000000000 ⌝ }
+        ensures { λ r. ⌜ r ≡ subgraphFrom (now (image .entry)) at ⌝ }
+    {
+        let flags = word(image, at + 6);
+        Subgraph {
+            x: word(image, at),
+            y: word(image, at + 1),
+            width: word(image, at + 2),
+            height: word(image, at + 3),
+            label: Span::read(image, at + 4),
+            border: Weight::from_bits(flags / 0x4000_0000),
+            position: LabelPosition::from_bit(flag(flags, 0x2000_0000)),
+            colour: word(image, at + 7),
+        }
     }
 }
 
@@ -395,17 +421,19 @@ pub struct PlacedLabel {
     pub row_has_node: bool,
 }
 
-pub fn placed_label_from(image: &[u32], at: usize) -> PlacedLabel
-    requires { ⌜ at < 0x20000000000 ⌝ }
-    ensures { λ r. ⌜ r ≡ placedLabelFrom (now (image .entry)) at ⌝ }
-{
-    let flags = word(image, at + 3);
-    PlacedLabel {
-        edge: word(image, at),
-        x: word(image, at + 1),
-        y: word(image, at + 2),
-        placeable: flag(flags, 0x8000_0000),
-        row_has_node: flag(flags, 0x4000_0000),
+impl PlacedLabel {
+    pub fn read(image: &[u32], at: usize) -> PlacedLabel
+        requires { ⌜ at < 0x20000000000 ⌝ }
+        ensures { λ r. ⌜ r ≡ placedLabelFrom (now (image .entry)) at ⌝ }
+    {
+        let flags = word(image, at + 3);
+        PlacedLabel {
+            edge: word(image, at),
+            x: word(image, at + 1),
+            y: word(image, at + 2),
+            placeable: flag(flags, 0x8000_0000),
+            row_has_node: flag(flags, 0x4000_0000),
+        }
     }
 }
 
@@ -423,25 +451,29 @@ pub struct Element {
     pub last_row: u32,
 }
 
-fn element_kind_from(n: u32) -> ElementKind
-    ensures { λ r. ⌜ r ≡ elementKindOf n ⌝ }
-{
-    match n {
-        0 => ElementKind::Node,
-        1 => ElementKind::Edge,
-        _ => ElementKind::Subgraph,
+impl ElementKind {
+    pub fn from_word(n: u32) -> ElementKind
+        ensures { λ r. ⌜ r ≡ elementKindOf n ⌝ }
+    {
+        match n {
+            0 => ElementKind::Node,
+            1 => ElementKind::Edge,
+            _ => ElementKind::Subgraph,
+        }
     }
 }
 
-pub fn element_from(image: &[u32], at: usize) -> Element
-    requires { ⌜ at < 0x20000000000 ⌝ }
-    ensures { λ r. ⌜ r ≡ elementFrom (now (image .entry)) at ⌝ }
-{
-    Element {
-        kind: element_kind_from(word(image, at)),
-        index: word(image, at + 1),
-        first_row: word(image, at + 2),
-        last_row: word(image, at + 3),
+impl Element {
+    pub fn read(image: &[u32], at: usize) -> Element
+        requires { ⌜ at < 0x20000000000 ⌝ }
+        ensures { λ r. ⌜ r ≡ elementFrom (now (image .entry)) at ⌝ }
+    {
+        Element {
+            kind: ElementKind::from_word(word(image, at)),
+            index: word(image, at + 1),
+            first_row: word(image, at + 2),
+            last_row: word(image, at + 3),
+        }
     }
 }
 
@@ -450,12 +482,14 @@ pub struct Point {
     pub y: u32,
 }
 
-pub fn point_from(words: &[u32], at: usize) -> Point
-    requires { ⌜ at < 0x20000000000 ⌝ }
-    ensures { λ r. ⌜ r ≡ pointFrom (now (words .entry)) at ⌝ }
-{
-    Point {
-        x: word(words, at),
-        y: word(words, at + 1),
+impl Point {
+    pub fn read(words: &[u32], at: usize) -> Point
+        requires { ⌜ at < 0x20000000000 ⌝ }
+        ensures { λ r. ⌜ r ≡ pointFrom (now (words .entry)) at ⌝ }
+    {
+        Point {
+            x: word(words, at),
+            y: word(words, at + 1),
+        }
     }
 }
