@@ -143,7 +143,7 @@ read-marker k d x w e =
     let kind : kindOf (w % 16) ≡ k = ap kindOf (f .1) ∙ kind-back _ in
     let dir : dirOf (w / 16 % 4) ≡ d = ap dirOf (f .2) ∙ dir-back _ in
     let dashed : eqb (w / 64 % 2) 1 ≡ x = ap (λ (n : ℕ). eqb n 1) (f .3) ∙ dashed-back _ in
-    rw (f .0) (cc)
+    rw (f .0, kind, dir, dashed)
 
 pub read-text : (ch w : ℕ) → ch ≤ 0x10FFFF → w ≡ pack (Text ch) → read w ≡ Text ch
 unfolding pack read readText

@@ -11,6 +11,9 @@ use cell::Dir;
 use cell::Weight;
 use image::Edge;
 
+pub mod orthogonal;
+pub mod pieces;
+pub mod rows;
 pub mod x_flow;
 pub mod y_flow;
 

@@ -21,7 +21,7 @@ enum-told-3 c = search needs
 
 returns : tie.Need-returns
 unfolding doubleOnMarker
-returns c = rw (c .before .before .enum-told .given .1) (cc)
+returns c = rw (c .before .before .enum-told .given .1, c .max .ensures, c .before .stem .ensures)
 
 returns-2 : tie.Need-returns-2
 unfolding doubleOnMarker

@@ -12,7 +12,7 @@ from-bits-requires-2 c κs = search needs
 
 returns : tie.Need-returns
 unfolding readMarker
-returns c = cc
+returns c = rw (c .before .from-bits .ensures, c .from-bits2 .ensures)
 
 pub read-marker-spec : {M : Type 1} → statement M
 read-marker-spec = tie.close (tie.spec from-bits-requires from-bits-requires-2 returns)

@@ -18,7 +18,13 @@ from-bits-requires-4 c κs = search needs
 
 returns : tie.Need-returns
 unfolding readArms
-returns c = cc
+returns c =
+    rw (
+      c .before .before .before .from-bits .ensures,
+      c .before .before .from-bits2 .ensures,
+      c .before .from-bits3 .ensures,
+      c .from-bits4 .ensures,
+    )
 
 pub from-bits-spec : {M : Type 1} → statement M
 from-bits-spec =

@@ -18,7 +18,13 @@ max-requires-4 c κs = search needs
 
 returns : tie.Need-returns
 unfolding heavierArms
-returns c = cc
+returns c =
+    rw (
+      c .before .before .before .max .ensures,
+      c .before .before .max2 .ensures,
+      c .before .max3 .ensures,
+      c .max4 .ensures,
+    )
 
 pub max-spec : {M : Type 1} → statement M
 max-spec = tie.close (tie.spec max-requires max-requires-2 max-requires-3 max-requires-4 returns)

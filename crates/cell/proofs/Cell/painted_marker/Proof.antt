@@ -15,7 +15,7 @@ pack-requires c κs = search needs
 
 returns : tie.Need-returns
 unfolding markerCell
-returns c = cc
+returns c = rw (c .pack .ensures, c .before .marked .ensures, c .before .before .read .ensures)
 
 pub painted-marker-spec : {M : Type 1} → statement M
 painted-marker-spec = tie.close (tie.spec read-requires marked-requires pack-requires returns)

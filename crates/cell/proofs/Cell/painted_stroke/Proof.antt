@@ -15,7 +15,7 @@ pack-requires c κs = search needs
 
 returns : tie.Need-returns
 unfolding strokeCell
-returns c = cc
+returns c = rw (c .pack .ensures, c .before .stroked .ensures, c .before .before .read .ensures)
 
 pub painted-stroke-spec : {M : Type 1} → statement M
 painted-stroke-spec = tie.close (tie.spec read-requires stroked-requires pack-requires returns)
