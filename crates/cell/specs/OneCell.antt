@@ -48,6 +48,14 @@ kindOf n = pick (eqb n 2) SelfLoop (pick (eqb n 3) Dummy Arrow)
 abbrev pub dirOf : ℕ → Dir
 dirOf n = pick (eqb n 0) Up (pick (eqb n 1) Down (pick (eqb n 2) Left Right))
 
+-- The arms of a line that goes through a cell.
+
+abbrev pub vertical : Weight → Arms
+vertical w = record { up = w; down = w; left = weight.None; right = weight.None }
+
+abbrev pub horizontal : Weight → Arms
+horizontal w = record { up = weight.None; down = weight.None; left = w; right = w }
+
 -- Packing. "Tag in bits 31..30: 0 empty, 1 text, 2 stroke, 3 marker."
 
 -- "weights at bits 0 up, 3 down, 6 left, 9 right"

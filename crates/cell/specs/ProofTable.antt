@@ -1,21 +1,11 @@
 -- The cases of document 01's proof table that speak of one cell, P1 to P4, on words.
 use mathlib.Core.Bool.{Bool}
 use mathlib.Core.Path.{_≡_}
-use Rattle.cell.specs.declared.Weight.{Weight}
-use Rattle.cell.specs.declared.Weight.the-variants.{None, Light, Double}
+use Rattle.cell.specs.declared.Weight.the-variants.{Light, Double}
 use Rattle.cell.specs.declared.MarkerKind.the-variants.{Arrow}
 use Rattle.cell.specs.declared.Dir.the-variants.{Down}
-use Rattle.cell.specs.declared.Arms.{Arms}
 use Rattle.cell.specs.declared.Parts.the-variants.{Text, Marker}
-use Rattle.cell.specs.OneCell.{pack, strokeCell}
-
--- the arms of a vertical line of a weight, where it passes through a cell
-abbrev pub vertical : Weight → Arms
-vertical w = record { up = w; down = w; left = None; right = None }
-
--- the arms of a horizontal line of a weight, where it passes through a cell
-abbrev pub horizontal : Weight → Arms
-horizontal w = record { up = None; down = None; left = w; right = w }
+use Rattle.cell.specs.OneCell.{vertical, horizontal, pack, strokeCell}
 
 -- one statement of the four
 pub record ProofTableCell : Type 0 where

@@ -2,7 +2,7 @@
 ghost use mathlib.Core.Path.{_≡_};
 ghost use Prim.Native.Nat.{_<_, _≤_};
 ghost use Rattle.cell.specs.OneCell.{weightNumber, kindNumber, dirNumber, weightOf, kindOf, dirOf};
-ghost use Rattle.cell.specs.OneCell.{packArms, packMarker, pack, readArms, readText, readMarker, read};
+ghost use Rattle.cell.specs.OneCell.{vertical, horizontal, packArms, packMarker, pack, readArms, readText, readMarker, read};
 ghost use Rattle.cell.specs.OneCell.{heavier, heavierArms, isDouble, hasDouble, stem, doubleOnMarker};
 ghost use Rattle.cell.specs.OneCell.{strokeOn, markerOn, textOn, strokeCell, markerCell, textCell};
 
@@ -124,6 +124,29 @@ pub struct Arms {
 }
 
 impl Arms {
+    // A line that goes through a cell, along the rows and along the columns.
+    pub fn vertical(w: Weight) -> Arms
+        ensures { λ r. ⌜ r ≡ vertical w ⌝ }
+    {
+        Arms {
+            up: w,
+            down: w,
+            left: Weight::None,
+            right: Weight::None,
+        }
+    }
+
+    pub fn horizontal(w: Weight) -> Arms
+        ensures { λ r. ⌜ r ≡ horizontal w ⌝ }
+    {
+        Arms {
+            up: Weight::None,
+            down: Weight::None,
+            left: w,
+            right: w,
+        }
+    }
+
     // "weights at bits 0 up, 3 down, 6 left, 9 right"
     pub fn packed(self) -> u32
         ensures { λ r. ⌜ (r ≡ packArms self) × (r < 4096) ⌝ }

@@ -50,14 +50,7 @@ endHead wanted s to dir = headAt wanted (along (not s) to 1) dir
 unfoldable pub lineOf : ℕ → ℕ → ℕ → Head → Head → Line
 lineOf at a b one two = record { at = at; a = a; b = b; one = one; two = two }
 
--- the arms of strokes: along the rows, along the columns, and of a corner with one arm of each pair
-
-abbrev pub vertical : Weight → Arms
-vertical w = record { up = w; down = w; left = weight.None; right = weight.None }
-
-abbrev pub horizontal : Weight → Arms
-horizontal w = record { up = weight.None; down = weight.None; left = w; right = w }
-
+-- an arm, where it is wanted
 abbrev pub armIf : Bool → Weight → Weight
 armIf wanted w = pick wanted w weight.None
 

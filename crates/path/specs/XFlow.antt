@@ -7,6 +7,7 @@ use Rattle.ground.specs.Choice.{pick, both}
 use Rattle.cell.specs.declared.Weight.{Weight}
 use Rattle.cell.specs.declared.Dir.{Dir}
 use Rattle.cell.specs.declared.Dir.the-variants.{Left, Right}
+use Rattle.cell.specs.OneCell.{horizontal}
 use Rattle.image.specs.declared.Edge.{Edge}
 use Rattle.path.specs.declared.Place.{Place}
 use Rattle.path.specs.declared.Place.the-variants as place
@@ -15,7 +16,7 @@ use Rattle.path.specs.declared.Bend.{Bend}
 use Rattle.path.specs.declared.Leg.{Leg}
 use Rattle.path.specs.declared.Piece.{Piece}
 use Rattle.path.specs.declared.Piece.the-variants.{Nothing, Vertical, Horizontal, Stroke, Mark}
-use Rattle.path.specs.Flow.{flowSign, along, sourceMarker, targetMarker, startHead, endHead, lineOf, cornerBend, legBend, cornerSteps, horizontal, corner}
+use Rattle.path.specs.Flow.{flowSign, along, sourceMarker, targetMarker, startHead, endHead, lineOf, cornerBend, legBend, cornerSteps, corner}
 
 abbrev pub signX : Edge → Bool
 signX e = flowSign (e .«from_x») (e .«to_x»)

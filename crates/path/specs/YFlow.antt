@@ -6,6 +6,7 @@ use Rattle.ground.specs.Choice.{pick, both}
 use Rattle.cell.specs.declared.Weight.{Weight}
 use Rattle.cell.specs.declared.Dir.{Dir}
 use Rattle.cell.specs.declared.Dir.the-variants.{Up, Down}
+use Rattle.cell.specs.OneCell.{vertical}
 use Rattle.image.specs.declared.Edge.{Edge}
 use Rattle.path.specs.declared.Place.{Place}
 use Rattle.path.specs.declared.Place.the-variants as place
@@ -14,7 +15,7 @@ use Rattle.path.specs.declared.Bend.{Bend}
 use Rattle.path.specs.declared.Leg.{Leg}
 use Rattle.path.specs.declared.Piece.{Piece}
 use Rattle.path.specs.declared.Piece.the-variants.{Nothing, Vertical, Run, Stroke, Mark}
-use Rattle.path.specs.Flow.{flowSign, along, sourceMarker, targetMarker, startHead, endHead, lineOf, cornerBend, legBend, cornerSteps, vertical, corner}
+use Rattle.path.specs.Flow.{flowSign, along, sourceMarker, targetMarker, startHead, endHead, lineOf, cornerBend, legBend, cornerSteps, corner}
 
 abbrev pub signY : Edge → Bool
 signY e = flowSign (e .«from_y») (e .«to_y»)

@@ -3,7 +3,7 @@
 ghost use mathlib.Core.Path.{_≡_};
 ghost use Prim.Native.Nat.{_+_, _≤_, _<_};
 ghost use Rattle.path.specs.Flow.{flowSign, along, sourceMarker, targetMarker, headAt, startHead, endHead, lineOf};
-ghost use Rattle.path.specs.Flow.{vertical, horizontal, armIf, corner, cornerBend, legBend, cornerSteps};
+ghost use Rattle.path.specs.Flow.{armIf, corner, cornerBend, legBend, cornerSteps};
 ghost use Rattle.path.specs.Bounds.{bound, SmallBend, SmallLeg, SmallPlace};
 ghost use Rattle.ground.specs.Choice.{both};
 use cell::Arms;
@@ -170,28 +170,6 @@ pub fn line(at: usize, a: usize, b: usize, one: Head, two: Head) -> Line
         b: b,
         one: one,
         two: two,
-    }
-}
-
-pub fn vertical(w: Weight) -> Arms
-    ensures { λ r. ⌜ r ≡ vertical w ⌝ }
-{
-    Arms {
-        up: w,
-        down: w,
-        left: Weight::None,
-        right: Weight::None,
-    }
-}
-
-pub fn horizontal(w: Weight) -> Arms
-    ensures { λ r. ⌜ r ≡ horizontal w ⌝ }
-{
-    Arms {
-        up: Weight::None,
-        down: Weight::None,
-        left: w,
-        right: w,
     }
 }
 

@@ -10,6 +10,7 @@ use crate::Head;
 use crate::Leg;
 use crate::Piece;
 use crate::Place;
+use cell::Arms;
 use cell::Dir;
 use cell::Weight;
 use image::Edge;
@@ -116,7 +117,7 @@ fn own_start(w: Weight, own: bool, x: usize, y: usize) -> Piece
         Piece::Stroke {
             x: x,
             y: y,
-            arms: crate::horizontal(w),
+            arms: Arms::horizontal(w),
         }
     } else {
         Piece::Nothing

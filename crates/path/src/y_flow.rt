@@ -9,6 +9,7 @@ use crate::Head;
 use crate::Leg;
 use crate::Piece;
 use crate::Place;
+use cell::Arms;
 use cell::Dir;
 use cell::Weight;
 use image::Edge;
@@ -128,7 +129,7 @@ fn own_start(w: Weight, own: bool, x: usize, y: usize) -> Piece
         Piece::Stroke {
             x: x,
             y: y,
-            arms: crate::vertical(w),
+            arms: Arms::vertical(w),
         }
     } else {
         Piece::Nothing
