@@ -1,0 +1,24 @@
+-- `NodeKind::from_bits` gives the kind that a number stands for.
+use borrow.Author.Tests.{ne-eqb}
+use Rattle.image.proofs.NodeKind.from_bits.Statement.{statement}
+use Rattle.image.proofs.NodeKind.from_bits.Tie as tie
+
+returns : tie.Need-returns
+returns c = rw (c .match .keys1)
+
+returns-2 : tie.Need-returns-2
+returns-2 c = rw (c .match .keys2)
+
+returns-3 : tie.Need-returns-3
+returns-3 c = rw (c .match .keys3)
+
+returns-4 : tie.Need-returns-4
+returns-4 c =
+    simp (
+      ne-eqb _ _ (c .match .rest .1),
+      ne-eqb _ _ (c .match .rest .0 .1),
+      ne-eqb _ _ (c .match .rest .0 .0 .1),
+    )
+
+pub from-bits-spec : {M : Type 1} → statement M
+from-bits-spec = tie.close (tie.spec returns returns-2 returns-3 returns-4)
