@@ -3,7 +3,7 @@
 ghost use mathlib.Core.Path.{_≡_};
 ghost use Prim.Native.Nat.{_+_, _*_, _/_, _%_, _≤_, _<_};
 ghost use lib.ListN.{length};
-ghost use Rattle.image.specs.SheetImage.{word, flag, policyOf, headerOf, tableEnd, tableAfter, tablesOf, wantedLength, recordAt};
+ghost use Rattle.image.specs.SheetImage.{word, flag, policyOf, headerOf, tableEnd, tableAfter, tablesOf, recordAt};
 ghost use Rattle.image.specs.SheetImage.{Small, AllSmall, spanFrom, spanWords, nodeKindOf, selfLoopFrom, nodeFrom, pathFrom, labelFrom, edgeFrom};
 ghost use Rattle.image.specs.SheetImage.{axisOf, positionOf, subgraphFrom, placedLabelFrom, elementKindOf, elementFrom, pointFrom};
 use cell::Weight;
