@@ -2,9 +2,14 @@
 //! those about one cell or one canvas asked of the original directly, the
 //! others as images.
 
+use crate::draft::{edge_record, Draft};
 use crate::engine::cell::{Cell, Dir, MarkerKind, Weight};
 use crate::engine::compose::{BandCanvas, Paint};
 use crate::image::WidthRange;
+use crate::layout::{
+    path_flags, CORNER, DIRECT, EDGES, END_MARKER_BIT, GLYPHS, MULTI_SEGMENT, NODES, POINTS,
+    RUN_CAPACITY_WORD, START_MARKER_BIT, SUBGRAPHS, WIDTH_RANGES,
+};
 use crate::text;
 
 /// What the original is asked.
@@ -67,7 +72,7 @@ fn painted(
     Case {
         name,
         how,
-        asked: Asked::Image(draft.words()),
+        asked: Asked::Image(draft.to_words()),
         stated,
     }
 }
@@ -155,6 +160,8 @@ fn four_columns(glyphs: &[(usize, char)]) -> Vec<u32> {
 /// The bare text of an image stands in the labels of subgraphs without border:
 /// nodes and placed labels bring a bracket or a quote with them.
 fn text_images() -> Vec<Case> {
+    let wide_label = with_label(with_wide_6f22(Draft::blank_sheet(5, 3)), 0, 0x6F22);
+    let two_labels = with_label(wide_label, 1, 0x41);
     vec![
         painted(
             "example",
@@ -166,17 +173,14 @@ fn text_images() -> Vec<Case> {
         painted(
             "P5-image",
             "four columns, 6F22 at column 3 of row 1 as the label of a subgraph at x 1",
-            Draft::sheet(4, 3).with_wide_6f22().with_label(1, 0x6F22),
+            with_label(with_wide_6f22(Draft::blank_sheet(4, 3)), 1, 0x6F22),
             (1, 3),
             &[0x4000_0020],
         ),
         painted(
             "P6-image",
             "one column further right, the first that bare text can reach: labels of subgraphs at x 0 and 1",
-            Draft::sheet(5, 3)
-                .with_wide_6f22()
-                .with_label(0, 0x6F22)
-                .with_label(1, 0x41),
+            two_labels,
             (1, 1),
             &[0, 0x4000_0020, 0x4000_0041, 0],
         ),
@@ -184,21 +188,45 @@ fn text_images() -> Vec<Case> {
 }
 
 fn example() -> Draft {
-    let mut draft = Draft::sheet(3, 1);
-    draft.nodes.push([0, 0, 3, 1, 0, 1, 0, 0, 0]);
-    draft.elements.push([NODE, 0, 0, 0]);
-    draft.glyphs.push(0x41);
+    let mut draft = Draft::blank_sheet(3, 1);
+    draft.add(NODES, &[0, 0, 3, 1, 0, 1, 0, 0, 0]);
+    draft.list(NODES, 0, 0, 0);
+    draft.add(GLYPHS, &[0x41]);
     draft
 }
 
 fn edge_images() -> Vec<Case> {
+    let mut cases = arrow_images();
+    let sheet = Draft::blank_sheet(3, 5);
+    let straight = with_edge(sheet, [1, 0, 1, 4], path_flags(CORNER), [2, 0, 0], (1, 3));
+    let sheet = with_runs(Draft::blank_sheet(4, 4), 1);
+    let flags = path_flags(CORNER) | START_MARKER_BIT;
+    let turning = with_edge(sheet, [0, 0, 3, 3], flags, [1, 0, 0], (1, 2));
+    cases.extend([
+        painted(
+            "P9-image",
+            "Corner (1,0) to (1,4), bend 2",
+            straight,
+            (2, 0),
+            &[0, 0, 0],
+        ),
+        painted(
+            "P10-image",
+            "Corner (0,0) to (3,3), bend 1, start arrow",
+            turning,
+            (1, 0),
+            &[0xC000_0001, 0x8000_0480, 0x8000_0480, 0x8000_0090],
+        ),
+    ]);
+    cases
+}
+
+fn arrow_images() -> Vec<Case> {
     let both_arrows = |path: u32| {
-        let flags = path | START_ARROW | END_ARROW;
-        Draft::sheet(3, 3).with_edge((1, 0), (1, 2), flags, [0; 3], (1, 1))
+        let sheet = Draft::blank_sheet(3, 3);
+        let flags = path_flags(path) | START_MARKER_BIT | END_MARKER_BIT;
+        with_edge(sheet, [1, 0, 1, 2], flags, [0; 3], (1, 1))
     };
-    let straight = Draft::sheet(3, 5).with_edge((1, 0), (1, 4), CORNER, [2, 0, 0], (1, 3));
-    let flags = CORNER | START_ARROW;
-    let turning = Draft::sheet(4, 4).with_edge((0, 0), (3, 3), flags, [1, 0, 0], (1, 2));
     vec![
         painted(
             "P7-image",
@@ -214,35 +242,17 @@ fn edge_images() -> Vec<Case> {
             (1, 1),
             &[0xC000_0001],
         ),
-        painted(
-            "P9-image",
-            "Corner (1,0) to (1,4), bend 2",
-            straight,
-            (2, 0),
-            &[0, 0, 0],
-        ),
-        painted(
-            "P10-image",
-            "Corner (0,0) to (3,3), bend 1, start arrow",
-            turning.with_runs(1),
-            (1, 0),
-            &[0xC000_0001, 0x8000_0480, 0x8000_0480, 0x8000_0090],
-        ),
     ]
 }
 
 /// The two run-only MultiSegment cases: a corner row below 0, and one at 0.
 fn corner_images() -> Vec<Case> {
     let through = |y: u32| {
-        let mut draft = Draft::sheet(3, 4).with_runs(1).with_edge(
-            (2, 3),
-            (0, 2),
-            MULTI_SEGMENT,
-            [0, 1, 0],
-            (0, 3),
-        );
-        draft.points.push([2, y]);
-        Asked::Image(draft.words())
+        let sheet = with_runs(Draft::blank_sheet(3, 4), 1);
+        let flags = path_flags(MULTI_SEGMENT);
+        let mut draft = with_edge(sheet, [2, 3, 0, 2], flags, [0, 1, 0], (0, 3));
+        draft.add(POINTS, &[2, y]);
+        Asked::Image(draft.to_words())
     };
     vec![
         Case {
@@ -260,100 +270,34 @@ fn corner_images() -> Vec<Case> {
     ]
 }
 
-// Element kinds and flags, "packed from bit 31 down".
-const NODE: u32 = 0;
-const EDGE: u32 = 1;
-const SUBGRAPH: u32 = 2;
-const DIRECT: u32 = 0;
-const CORNER: u32 = 1 << 29;
-const MULTI_SEGMENT: u32 = 3 << 29;
-const START_ARROW: u32 = 1 << 26;
-const END_ARROW: u32 = 1 << 25;
-const LIGHT: u32 = 2 << 23;
-
-/// An image in the making: its records as words.
-#[derive(Default)]
-struct Draft {
-    width: u32,
-    height: u32,
-    run_capacity: u32,
-    nodes: Vec<[u32; 9]>,
-    edges: Vec<[u32; 12]>,
-    subgraphs: Vec<[u32; 8]>,
-    placed_labels: Vec<[u32; 4]>,
-    elements: Vec<[u32; 4]>,
-    points: Vec<[u32; 2]>,
-    glyphs: Vec<u32>,
-    width_ranges: Vec<[u32; 3]>,
+fn with_runs(mut draft: Draft, capacity: u32) -> Draft {
+    draft.head[RUN_CAPACITY_WORD] = capacity;
+    draft
 }
 
-impl Draft {
-    fn sheet(width: u32, height: u32) -> Draft {
-        Draft {
-            width,
-            height,
-            ..Draft::default()
-        }
-    }
+fn with_wide_6f22(mut draft: Draft) -> Draft {
+    draft.add(WIDTH_RANGES, &[0x6F22, 0x6F22, 2]);
+    draft
+}
 
-    fn with_runs(mut self, capacity: u32) -> Draft {
-        self.run_capacity = capacity;
-        self
-    }
+/// A glyph alone at column x + 2 of row 1: the label of a subgraph without
+/// border, six columns by three rows.
+fn with_label(mut draft: Draft, x: u32, glyph: u32) -> Draft {
+    let start = draft.add(GLYPHS, &[glyph]);
+    let subgraph = draft.add(SUBGRAPHS, &[x, 0, 6, 3, start, 1, 0, 0]);
+    draft.list(SUBGRAPHS, subgraph, 1, 1);
+    draft
+}
 
-    fn with_wide_6f22(mut self) -> Draft {
-        self.width_ranges.push([0x6F22, 0x6F22, 2]);
-        self
-    }
-
-    /// A glyph alone at column x + 2 of row 1: the label of a subgraph without
-    /// border, six columns by three rows.
-    fn with_label(mut self, x: u32, glyph: u32) -> Draft {
-        let (subgraph, start) = (self.subgraphs.len() as u32, self.glyphs.len() as u32);
-        self.subgraphs.push([x, 0, 6, 3, start, 1, 0, 0]);
-        self.elements.push([SUBGRAPH, subgraph, 1, 1]);
-        self.glyphs.push(glyph);
-        self
-    }
-
-    /// A Light edge without label or colour, listed for the rows given.
-    fn with_edge(
-        mut self,
-        from: (u32, u32),
-        to: (u32, u32),
-        flags: u32,
-        [a, b, c]: [u32; 3],
-        rows: (u32, u32),
-    ) -> Draft {
-        let edge = self.edges.len() as u32;
-        let flags = flags | LIGHT;
-        self.edges
-            .push([from.0, from.1, to.0, to.1, flags, a, b, c, 0, 0, 0, 0]);
-        self.elements.push([EDGE, edge, rows.0, rows.1]);
-        self
-    }
-
-    fn words(&self) -> Vec<u32> {
-        let mut words = vec![self.width, self.height, self.run_capacity, 0];
-        let counts = [
-            self.nodes.len(),
-            self.edges.len(),
-            self.subgraphs.len(),
-            self.placed_labels.len(),
-            self.elements.len(),
-            self.points.len(),
-            self.glyphs.len(),
-            self.width_ranges.len(),
-        ];
-        words.extend(counts.map(|count| count as u32));
-        words.extend(self.nodes.concat());
-        words.extend(self.edges.concat());
-        words.extend(self.subgraphs.concat());
-        words.extend(self.placed_labels.concat());
-        words.extend(self.elements.concat());
-        words.extend(self.points.concat());
-        words.extend(&self.glyphs);
-        words.extend(self.width_ranges.concat());
-        words
-    }
+/// An edge without label or colour, listed for the rows given.
+fn with_edge(
+    mut draft: Draft,
+    ends: [u32; 4],
+    flags: u32,
+    abc: [u32; 3],
+    rows: (u32, u32),
+) -> Draft {
+    let edge = draft.add(EDGES, &edge_record(ends, flags, abc));
+    draft.list(EDGES, edge, rows.0, rows.1);
+    draft
 }

@@ -3,31 +3,11 @@
 //! Reading holds to the field rules in the order of the words, so what cannot
 //! be read is what document 01 refuses with the codes 1 to 4, at the same place.
 
-/// "Coordinates, extents, rows and offsets are at most 32,767."
-const FARTHEST: u32 = 32_767;
-const LAST_CODE_POINT: u32 = 0x10_FFFF;
-const HEADER_WORDS: usize = 12;
-
-/// The header's words after the flags, in order: a table, its greatest count,
-/// the words of one record.
-const TABLES: [(&str, u32, usize); 8] = [
-    ("nodes", 1_024, 9),
-    ("edges", 1_024, 12),
-    ("subgraphs", 1_024, 8),
-    ("placed labels", 1_024, 4),
-    ("elements", 3_072, 4),
-    ("points", 8_192, 2),
-    ("glyphs", 16_384, 1),
-    ("width ranges", 1_024, 3),
-];
-const NODES: usize = 0;
-const EDGES: usize = 1;
-const SUBGRAPHS: usize = 2;
-const LABELS: usize = 3;
-const ELEMENTS: usize = 4;
-const POINTS: usize = 5;
-const GLYPHS: usize = 6;
-const WIDTHS: usize = 7;
+use crate::layout::{
+    CODE_POINT_LIMIT, COORDINATE_LIMIT, EDGES, ELEMENTS, FIRST_COUNT_WORD, GLYPHS, HEADER_LIMITS,
+    HEADER_WORDS, NODES, PLACED_LABELS, POINTS, RECORD_WORDS, SUBGRAPHS, TABLES, TABLE_NAMES,
+    WIDTH_RANGES,
+};
 
 /// Why an image cannot be read or must not be painted: document 01's code of
 /// refusal and its place, and what is wrong in words.
@@ -195,7 +175,7 @@ impl Image {
         }
         let mut r = Reader::of(words);
         let (width, height) = r.size()?;
-        let run_capacity = r.at_most("run capacity", 16_384, 2)?;
+        let run_capacity = r.at_most("run capacity", HEADER_LIMITS[2], 2)?;
         let policy = r.header_flags()?;
         r.counts()?;
         Ok(Image {
@@ -207,11 +187,11 @@ impl Image {
             nodes: r.table(NODES, Reader::node)?,
             edges: r.table(EDGES, Reader::edge)?,
             subgraphs: r.table(SUBGRAPHS, Reader::subgraph)?,
-            placed_labels: r.table(LABELS, Reader::placed_label)?,
+            placed_labels: r.table(PLACED_LABELS, Reader::placed_label)?,
             elements: r.table(ELEMENTS, Reader::element)?,
             points: r.table(POINTS, Reader::point)?,
             glyphs: r.table(GLYPHS, Reader::glyph)?,
-            width_ranges: r.table(WIDTHS, Reader::width_range)?,
+            width_ranges: r.table(WIDTH_RANGES, Reader::width_range)?,
         })
     }
 
@@ -227,7 +207,8 @@ impl Image {
     /// number of such a corner and practically never ends.
     pub fn corner_below_zero(&self) -> Option<Unreadable> {
         let edge = self.edges.iter().position(|e| self.sinks_below_zero(e))?;
-        let place = HEADER_WORDS + self.nodes.len() * TABLES[NODES].2 + edge * TABLES[EDGES].2;
+        let place =
+            HEADER_WORDS + self.nodes.len() * RECORD_WORDS[NODES] + edge * RECORD_WORDS[EDGES];
         let what = format!("edge {edge} has a MultiSegment corner below 0");
         Some(Unreadable {
             code: 6,
@@ -281,7 +262,7 @@ fn weight_of(bits: u32) -> Option<Weight> {
 struct Reader<'w> {
     words: &'w [u32],
     at: usize,
-    counts: [usize; TABLES.len()],
+    counts: [usize; TABLES],
 }
 
 impl<'w> Reader<'w> {
@@ -289,7 +270,7 @@ impl<'w> Reader<'w> {
         Reader {
             words,
             at: 0,
-            counts: [0; TABLES.len()],
+            counts: [0; TABLES],
         }
     }
 
@@ -312,7 +293,7 @@ impl<'w> Reader<'w> {
     }
 
     fn far(&mut self, what: &str) -> Result<usize, Unreadable> {
-        self.at_most(what, FARTHEST, 4)
+        self.at_most(what, COORDINATE_LIMIT, 4)
     }
 
     fn unused(&mut self, what: &str) -> Result<(), Unreadable> {
@@ -332,7 +313,7 @@ impl<'w> Reader<'w> {
     fn span(&mut self, what: &str, table: usize) -> Result<Span, Unreadable> {
         let (start, count) = (self.next(), self.next());
         if u64::from(start) + u64::from(count) > self.counts[table] as u64 {
-            let table = TABLES[table].0;
+            let table = TABLE_NAMES[table];
             let what = format!("{what} {start} + {count} leaves the {table}");
             return unreadable(4, self.at - 2, what);
         }
@@ -345,14 +326,17 @@ impl<'w> Reader<'w> {
     fn index(&mut self, what: &str, table: usize) -> Result<usize, Unreadable> {
         let index = self.next() as usize;
         if index >= self.counts[table] {
-            return self.bad(4, format!("{what} {index} leaves the {}", TABLES[table].0));
+            return self.bad(
+                4,
+                format!("{what} {index} leaves the {}", TABLE_NAMES[table]),
+            );
         }
         Ok(index)
     }
 
     fn size(&mut self) -> Result<(usize, usize), Unreadable> {
-        let width = self.at_most("sheet width", 1_024, 2)?;
-        let height = self.at_most("sheet height", FARTHEST, 2)?;
+        let width = self.at_most("sheet width", HEADER_LIMITS[0], 2)?;
+        let height = self.at_most("sheet height", HEADER_LIMITS[1], 2)?;
         Ok((width, height))
     }
 
@@ -362,9 +346,10 @@ impl<'w> Reader<'w> {
 
     fn counts(&mut self) -> Result<(), Unreadable> {
         let mut wanted = HEADER_WORDS;
-        for (table, (name, limit, record)) in TABLES.into_iter().enumerate() {
+        for (table, name) in TABLE_NAMES.into_iter().enumerate() {
+            let limit = HEADER_LIMITS[FIRST_COUNT_WORD + table];
             self.counts[table] = self.at_most(&format!("count of {name}"), limit, 2)?;
-            wanted += self.counts[table] * record;
+            wanted += self.counts[table] * RECORD_WORDS[table];
         }
         if self.words.len() != wanted {
             let what = format!("{} words where {wanted} are wanted", self.words.len());
@@ -525,8 +510,8 @@ impl<'w> Reader<'w> {
     }
 
     fn width_range(&mut self) -> Result<WidthRange, Unreadable> {
-        let first = self.at_most("first of a width range", LAST_CODE_POINT, 4)? as u32;
-        let last = self.at_most("last of a width range", LAST_CODE_POINT, 4)? as u32;
+        let first = self.at_most("first of a width range", CODE_POINT_LIMIT, 4)? as u32;
+        let last = self.at_most("last of a width range", CODE_POINT_LIMIT, 4)? as u32;
         let width = self.at_most("width", 2, 4)?;
         if width == 1 {
             return self.bad(4, "width 1 needs no width range".to_string());

@@ -1,19 +1,34 @@
-//! The original compositor, asked by images of document 01's format. README.md
-//! says what each command answers.
+//! The slow check and the original compositor, asked by images of document 01's
+//! format. README.md says what each command answers. Compiled without
+//! `original`, it leaves out all that needs the original's text.
 
 extern crate alloc;
 
+#[cfg(original)]
 mod cases;
+mod compare_check;
+mod draft;
+#[cfg(original)]
 mod engine;
+mod full;
+mod generate;
+#[cfg(original)]
 mod image;
+mod layout;
+mod limits;
+#[cfg(original)]
 mod paint;
+mod slow_check;
+#[cfg(original)]
 mod stubs;
+#[cfg(original)]
 mod vectors;
 
 // Found by the original as `crate::text` and so on.
+#[cfg(original)]
 use stubs::{graph, ir, text, GraphError, PortAttachment};
 
-use std::io::{self, BufWriter, Read, Write};
+use std::path::PathBuf;
 use std::process::ExitCode;
 
 fn main() -> ExitCode {
@@ -22,8 +37,12 @@ fn main() -> ExitCode {
         return wrong_use("no command");
     };
     let done = match command.as_str() {
-        "paint" => paint_command(rest),
+        #[cfg(original)]
+        "paint" => paint::command(rest),
+        #[cfg(original)]
         "vectors" => vectors::command(rest),
+        "limits" => limits::command(rest),
+        "compare-check" => compare_check::command(rest),
         other => return wrong_use(&format!("no command {other}")),
     };
     // A reader that has seen enough may close the pipe: no reason to panic.
@@ -35,49 +54,13 @@ pub fn wrong_use(why: &str) -> ExitCode {
     ExitCode::from(2)
 }
 
-/// How `paint` is to paint: in colour or plain, how many rows at a time.
-struct Manner {
-    coloured: bool,
-    band: usize,
+/// A file of the repository, whose folder `oracle/run` names.
+pub fn in_the_repository(path: &str) -> PathBuf {
+    PathBuf::from(std::env::var_os("PIVOTDAWN_ROOT").unwrap_or_default()).join(path)
 }
 
-fn manner_of(options: &[String]) -> Option<Manner> {
-    let mut manner = Manner {
-        coloured: false,
-        band: usize::MAX,
-    };
-    let mut options = options.iter();
-    while let Some(option) = options.next() {
-        match option.as_str() {
-            "--colour" => manner.coloured = true,
-            "--band" => manner.band = options.next()?.parse().ok().filter(|&rows| rows > 0)?,
-            _ => return None,
-        }
-    }
-    Some(manner)
-}
-
-fn paint_command(options: &[String]) -> io::Result<ExitCode> {
-    let Some(manner) = manner_of(options) else {
-        return Ok(wrong_use("paint [--colour] [--band N], N at least 1"));
-    };
-    let mut bytes = Vec::new();
-    io::stdin().read_to_end(&mut bytes)?;
-    let Some(words) = image::words_of(&bytes) else {
-        return unreadable(format!("{} bytes are no whole words", bytes.len()));
-    };
-    match paint::paint(&words, manner.coloured, manner.band) {
-        Ok(sheet) => {
-            let mut out = BufWriter::new(io::stdout().lock());
-            sheet.write(&mut out)?;
-            out.flush()?;
-            Ok(ExitCode::SUCCESS)
-        }
-        Err(why) => unreadable(why.to_string()),
-    }
-}
-
-fn unreadable(why: String) -> io::Result<ExitCode> {
-    writeln!(io::stdout(), "unreadable: {why}")?;
-    Ok(ExitCode::FAILURE)
+/// Words as document 01 prints cells: "each cell eight upper-case hex digits, single-spaced."
+pub fn hex_row(words: &[u32]) -> String {
+    let hex: Vec<String> = words.iter().map(|w| format!("{w:08X}")).collect();
+    hex.join(" ")
 }

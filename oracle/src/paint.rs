@@ -13,8 +13,56 @@ use crate::ir::{FlowAxis, NodeKind};
 use crate::stubs::color::CellColor;
 use crate::stubs::config::LabelPlacementPolicy;
 use crate::stubs::style::{LabelPosition, LineWeight, MarkerShape, NodePaintFn, SubgraphBorder};
-use crate::{text, PortAttachment};
-use std::io::{self, Write};
+use crate::{hex_row, text, wrong_use, PortAttachment};
+use std::io::{self, BufWriter, Read, Write};
+use std::process::ExitCode;
+
+/// How `paint` is to paint: in colour or plain, how many rows at a time.
+struct Manner {
+    coloured: bool,
+    band: usize,
+}
+
+fn manner_of(options: &[String]) -> Option<Manner> {
+    let mut manner = Manner {
+        coloured: false,
+        band: usize::MAX,
+    };
+    let mut options = options.iter();
+    while let Some(option) = options.next() {
+        match option.as_str() {
+            "--colour" => manner.coloured = true,
+            "--band" => manner.band = options.next()?.parse().ok().filter(|&rows| rows > 0)?,
+            _ => return None,
+        }
+    }
+    Some(manner)
+}
+
+pub fn command(options: &[String]) -> io::Result<ExitCode> {
+    let Some(manner) = manner_of(options) else {
+        return Ok(wrong_use("paint [--colour] [--band N], N at least 1"));
+    };
+    let mut bytes = Vec::new();
+    io::stdin().read_to_end(&mut bytes)?;
+    let Some(words) = image::words_of(&bytes) else {
+        return unreadable(format!("{} bytes are no whole words", bytes.len()));
+    };
+    match paint(&words, manner.coloured, manner.band) {
+        Ok(sheet) => {
+            let mut out = BufWriter::new(io::stdout().lock());
+            sheet.write(&mut out)?;
+            out.flush()?;
+            Ok(ExitCode::SUCCESS)
+        }
+        Err(why) => unreadable(why.to_string()),
+    }
+}
+
+fn unreadable(why: String) -> io::Result<ExitCode> {
+    writeln!(io::stdout(), "unreadable: {why}")?;
+    Ok(ExitCode::FAILURE)
+}
 
 /// A painted sheet, row after row.
 #[derive(PartialEq, Eq)]
@@ -96,12 +144,6 @@ impl Sheet {
         }
         Ok(())
     }
-}
-
-/// "Each cell eight upper-case hex digits, single-spaced."
-pub fn hex_row(words: &[u32]) -> String {
-    let hex: Vec<String> = words.iter().map(|w| format!("{w:08X}")).collect();
-    hex.join(" ")
 }
 
 /// The image as a layout. Labels are made into text once, for the original

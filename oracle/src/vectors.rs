@@ -2,19 +2,17 @@
 //! that document 01 states and against the stored answers.
 
 use crate::cases::{self, Asked, Case, Stated};
-use crate::paint::{self, hex_row, Sheet};
-use crate::wrong_use;
+use crate::paint::{self, Sheet};
+use crate::{hex_row, in_the_repository, wrong_use};
 use std::fmt::Write as _;
 use std::io::{self, Write as _};
 use std::process::ExitCode;
 
-/// Where the stored answers stand; `oracle/run` sets it.
-const ANSWERS: &str = "PIVOTDAWN_ANSWERS";
+/// The stored answers.
+const ANSWERS: &str = "oracle/answers.txt";
 
 pub fn command(options: &[String]) -> io::Result<ExitCode> {
-    let Ok(stored_at) = std::env::var(ANSWERS) else {
-        return Ok(wrong_use("start it by oracle/run"));
-    };
+    let stored_at = in_the_repository(ANSWERS);
     let reports: Vec<String> = cases::all().iter().map(report).collect();
     let text = reports.join("\n");
     io::stdout().write_all(text.as_bytes())?;

@@ -1,2 +1,3 @@
 -- Laws that every layer shares.
 pub mod Order
+pub mod First

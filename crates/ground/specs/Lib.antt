@@ -1,2 +1,3 @@
 -- What every layer shares: choosing by a test.
 pub mod Choice
+pub mod First

@@ -1,6 +1,12 @@
-// What every layer shares: a word as an index, the lesser and the greater of two.
+// What every layer shares: a word as an index, the lesser and the greater of two, and a place that was found.
 ghost use mathlib.Core.Path.{_≡_};
 ghost use Prim.Native.Nat.{_<_, min, max};
+
+// A place where something was found, or that nothing was.
+pub enum Found {
+    None,
+    At(usize),
+}
 
 // A 32-bit field as an index: sums of such are made in 64 bits, so that none wraps.
 pub fn wide(x: u32) -> usize

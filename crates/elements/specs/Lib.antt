@@ -1,0 +1,3 @@
+-- What document 01 says of the list of elements by itself.
+pub mod Elements
+pub mod Slots

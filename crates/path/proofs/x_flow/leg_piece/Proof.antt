@@ -1,0 +1,28 @@
+-- `leg_piece` gives the pieces of a leg, slot by slot.
+use borrow.Author.Needs.{needs}
+use borrow.Author.Tests.{eq-eqb, ne-eqb}
+use Rattle.path.specs.XFlow.{legX}
+use Rattle.path.proofs.x_flow.leg_piece.Statement.{statement}
+use Rattle.path.proofs.x_flow.leg_piece.Tie as tie
+
+straight-requires : tie.Need-straight-requires
+straight-requires c κs = search needs
+
+returns : tie.Need-returns
+unfolding legX
+returns c = rw (eq-eqb _ _ (c .before .if1 .taken)) (c .straight .ensures)
+
+corner-column-requires : tie.Need-corner-column-requires
+corner-column-requires c κs = search needs
+
+crossing-requires : tie.Need-crossing-requires
+crossing-requires c κs = search needs
+
+returns-2 : tie.Need-returns-2
+unfolding legX
+returns-2 c = rw (ne-eqb _ _ (c .before .before .if1 .left), c .crossing .ensures, c .before .corner-column .ensures .0)
+
+pub leg-piece-spec : {M : Type 1} → statement M
+leg-piece-spec =
+    tie.close
+    (tie.spec straight-requires returns corner-column-requires crossing-requires returns-2)

@@ -1,0 +1,16 @@
+-- `corner_arrow` says whether an arrow replaces the first corner of a crossing.
+use borrow.Author.Needs.{needs}
+use Rattle.path.proofs.y_flow.corner_arrow.Statement.{statement}
+use Rattle.path.proofs.y_flow.corner_arrow.Tie as tie
+
+near-requires : tie.Need-near-requires
+near-requires c κs = search needs
+
+returns : tie.Need-returns
+returns c = rw (c .near .ensures, c .before .if1 .taken)
+
+returns-2 : tie.Need-returns-2
+returns-2 c = search needs
+
+pub corner-arrow-spec : {M : Type 1} → statement M
+corner-arrow-spec = tie.close (tie.spec near-requires returns returns-2)

@@ -1,0 +1,19 @@
+-- `near` says whether the bend lies at most one cell along the flow.
+use borrow.Author.Needs.{needs}
+use Rattle.path.proofs.y_flow.near.Statement.{statement}
+use Rattle.path.proofs.y_flow.near.Tie as tie
+
+add-result : tie.Need-add-result
+add-result c = search needs
+
+add-result-2 : tie.Need-add-result-2
+add-result-2 c = search needs
+
+returns : tie.Need-returns
+returns c = rw (c .if1 .taken)
+
+returns-2 : tie.Need-returns-2
+returns-2 c = rw (c .if1 .left)
+
+pub near-spec : {M : Type 1} → statement M
+near-spec = tie.close (tie.spec add-result add-result-2 returns returns-2)

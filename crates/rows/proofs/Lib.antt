@@ -1,0 +1,2 @@
+-- What is shown of rows: the theorems.
+pub mod Theorems

@@ -1,0 +1,2 @@
+-- Rows of the sheet, from a first to a last.
+pub mod SheetRows

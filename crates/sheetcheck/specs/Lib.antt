@@ -1,0 +1,2 @@
+-- What is known of a place that was found.
+pub mod Listed

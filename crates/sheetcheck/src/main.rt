@@ -1,0 +1,263 @@
+// Reads a sheet image from standard input and says whether it is accepted, or what is wrong and where, in words that a planner's author can act on.
+ghost use Prim.Native.Nat.{_≤_, _<_};
+ghost use Rattle.image.specs.SheetImage.{AllSmall};
+ghost use Rattle.sheetcheck.specs.Listed.{FoundBelow};
+use fields::RecordKind;
+use ground::Found;
+use image::ElementKind;
+use image::Tables;
+use image::word;
+use libc::STDIN_FILENO;
+use rows::Rows;
+use spot::Spot;
+
+mod names;
+mod say;
+
+// What a word of a record holds and what it may hold.
+fn explain_field(image: &[u32], ts: Tables, place: usize)
+    requires { ⌜ AllSmall ts ⌝ }
+{
+    let at = spot::spot_of(ts, place);
+    let Spot::Record { kind, index, field } = at else {
+        return;
+    };
+    names::record(kind);
+    say::number(index);
+    say::text(b", ");
+    names::field(kind, field);
+    say::count(b": holds ", ground::wide(word(image, place)));
+    say::text(b"; may hold ");
+    names::rule(kind, field);
+    say::text(b"\n");
+}
+
+fn explain_header(image: &[u32], place: usize) {
+    say::text(b"header, ");
+    names::header_field(place);
+    say::count(b": holds ", ground::wide(word(image, place)));
+    say::text(b"; may hold ");
+    names::header_rule(place);
+    say::text(b"\n");
+}
+
+fn explain_length(image: &[u32], place: usize) {
+    say::count(b"the image has ", image.len());
+    say::count(b" words; its header and tables want ", place);
+    say::text(b"\n");
+}
+
+// The record that begins at a place.
+fn record_at(ts: Tables, place: usize)
+    requires { ⌜ AllSmall ts ⌝ }
+{
+    let at = spot::spot_of(ts, place);
+    let Spot::Record { kind, index, field } = at else {
+        return;
+    };
+    names::record(kind);
+    say::number(index);
+}
+
+fn next_word(image: &[u32], place: usize, by: usize) -> usize
+    requires { ⌜ by ≤ 8 ⌝ }
+{
+    if place < 1000000 {
+        ground::wide(word(image, place + by))
+    } else {
+        0
+    }
+}
+
+fn explain_range(image: &[u32], ts: Tables, place: usize)
+    requires { ⌜ AllSmall ts ⌝ }
+{
+    record_at(ts, place);
+    say::count(b": from ", next_word(image, place, 0));
+    say::count(b" to ", next_word(image, place, 1));
+    say::text(
+        b"; a range has its first at most its last, lies above the range before it, and holds none of 32, 34, 91 and 93\n",
+    );
+}
+
+fn explain_corner(ts: Tables, place: usize)
+    requires { ⌜ AllSmall ts ⌝ }
+{
+    record_at(ts, place);
+    say::text(
+        b": a corner of its path lies below 0; a corner lies 1 cell past the start of its leg, and the start offset further on the first leg\n",
+    );
+}
+
+fn explain_twice(image: &[u32], ts: Tables, place: usize)
+    requires { ⌜ AllSmall ts ⌝ }
+{
+    record_at(ts, place);
+    say::count(b": kind ", next_word(image, place, 0));
+    say::count(b", index ", next_word(image, place, 1));
+    say::text(b", which an earlier element lists already; each thing is listed once\n");
+}
+
+fn explain_order(image: &[u32], ts: Tables, place: usize)
+    requires { ⌜ AllSmall ts ⌝ }
+{
+    record_at(ts, place);
+    say::count(b": rows ", next_word(image, place, 2));
+    say::count(b" to ", next_word(image, place, 3));
+    say::text(
+        b"; the first row is at most the last, and not below the first row of the element before\n",
+    );
+}
+
+// Whether element k lists this thing.
+fn lists(image: &[u32], ts: Tables, k: usize, kind: u32, index: usize) -> bool
+    requires { ⌜ AllSmall ts × (k < 4294967296) ⌝ }
+{
+    let elements = ts.elements;
+    let at = elements.at(k);
+    if word(image, at) == kind {
+        ground::wide(word(image, at + 1)) == index
+    } else {
+        false
+    }
+}
+
+// The element that lists a thing.
+fn listing_of(image: &[u32], ts: Tables, kind: u32, index: usize) -> Found
+    requires { ⌜ AllSmall ts ⌝ }
+    ensures { λ r. ⌜ FoundBelow 4294967296 r ⌝ }
+{
+    let elements = ts.elements;
+    let count = elements.count;
+    let mut k: usize = 0;
+    while k < count {
+        if lists(image, ts, k, kind, index) {
+            return Found::At(k);
+        }
+        k += 1;
+    }
+    Found::None
+}
+
+fn say_rows_listed(image: &[u32], ts: Tables, k: usize)
+    requires { ⌜ AllSmall ts × (k < 4294967296) ⌝ }
+{
+    say::count(b"; element ", k);
+    say::count(
+        b" lists rows ",
+        ground::wide(elements::first_row(image, ts, k)),
+    );
+    say::count(b" to ", ground::wide(elements::last_row(image, ts, k)));
+    say::text(b"\n");
+}
+
+fn say_listing(image: &[u32], ts: Tables, kind: u32, index: usize)
+    requires { ⌜ AllSmall ts ⌝ }
+{
+    let listing = listing_of(image, ts, kind, index);
+    match listing {
+        Found::None => say::text(b"; no element lists it\n"),
+        Found::At(k) => say_rows_listed(image, ts, k),
+    }
+}
+
+fn say_touched(touched: Rows) {
+    let Rows::From { first, last } = touched else {
+        return;
+    };
+    say::count(b": touches rows of the sheet from ", first);
+    say::count(b" to ", last);
+}
+
+fn explain_thing(image: &[u32], ts: Tables, kind: ElementKind, number: u32, index: usize)
+    requires { ⌜ AllSmall ts ⌝ }
+{
+    let ranges = ts.ranges;
+    if index < 1024 {
+        if ranges.count <= 1024 {
+            say_touched(refusals::listing::touched_by(kind, image, ts, index));
+        }
+    }
+    say_listing(image, ts, number, index);
+}
+
+fn explain_listing(image: &[u32], ts: Tables, place: usize)
+    requires { ⌜ AllSmall ts ⌝ }
+{
+    record_at(ts, place);
+    let at = spot::spot_of(ts, place);
+    let Spot::Record { kind, index, field } = at else {
+        return;
+    };
+    match kind {
+        RecordKind::Node => explain_thing(image, ts, ElementKind::Node, 0, index),
+        RecordKind::Edge => explain_thing(image, ts, ElementKind::Edge, 1, index),
+        _ => explain_thing(image, ts, ElementKind::Subgraph, 2, index),
+    }
+}
+
+fn explain_runs(image: &[u32], ts: Tables)
+    requires { ⌜ AllSmall ts ⌝ }
+{
+    say::count(
+        b"header, run capacity: holds ",
+        ground::wide(word(image, 2)),
+    );
+    let edges = ts.edges;
+    if edges.count <= 1024 {
+        say::count(b"; the image has ", refusals::listing::run_count(image, ts));
+        say::text(b" runs on rows of the sheet");
+    }
+    say::text(b"\n");
+}
+
+fn explain_tables(image: &[u32], code: u32, place: usize) {
+    let ts = Tables::read(image);
+    match code {
+        4 => explain_field(image, ts, place),
+        5 => explain_range(image, ts, place),
+        6 => explain_corner(ts, place),
+        7 => explain_twice(image, ts, place),
+        8 => explain_order(image, ts, place),
+        9 => explain_listing(image, ts, place),
+        _ => explain_runs(image, ts),
+    }
+}
+
+fn explain(image: &[u32], code: u32, place: usize) {
+    match code {
+        1 => explain_length(image, 12),
+        2 => explain_header(image, place),
+        3 => explain_length(image, place),
+        _ => explain_tables(image, code, place),
+    }
+}
+
+fn report(image: &[u32]) {
+    let answer = refusals::check(image);
+    if answer.code == 0 {
+        say::accepted(word(image, 0), word(image, 1), answer.runs);
+    } else {
+        say::refused(answer.code, answer.place);
+        explain(image, answer.code, answer.place);
+    }
+}
+
+// "an image of at most 16,384 words": one byte more is looked for, so that a longer input is never taken for a whole one.
+fn main() {
+    let mut bytes = io::large_buffer();
+    let mut words = [0u32; 16384];
+    let got = io::read_full(STDIN_FILENO, &mut bytes);
+    let mut more = [0u8; 1];
+    let over = io::read_full(STDIN_FILENO, &mut more);
+    if 0 < over {
+        say::too_long();
+        return;
+    }
+    if got % 4 != 0 {
+        say::broken(got);
+        return;
+    }
+    let count = wordfile::fill(&bytes[..got], &mut words);
+    report(&words[..count]);
+}

@@ -1,0 +1,211 @@
+// The names of records and their fields, and what each field may hold.
+use crate::say;
+use fields::RecordKind;
+
+pub fn record(kind: RecordKind) {
+    match kind {
+        RecordKind::Node => say::text(b"node "),
+        RecordKind::Edge => say::text(b"edge "),
+        RecordKind::Subgraph => say::text(b"subgraph "),
+        RecordKind::PlacedLabel => say::text(b"placed label "),
+        RecordKind::Element => say::text(b"element "),
+        RecordKind::Point => say::text(b"point "),
+        RecordKind::Glyph => say::text(b"glyph "),
+        RecordKind::Range => say::text(b"width range "),
+    }
+}
+
+pub fn header_field(field: usize) {
+    match field {
+        0 => say::text(b"width"),
+        1 => say::text(b"height"),
+        2 => say::text(b"run capacity"),
+        3 => say::text(b"flags"),
+        4 => say::text(b"node count"),
+        5 => say::text(b"edge count"),
+        6 => say::text(b"subgraph count"),
+        7 => say::text(b"placed label count"),
+        8 => say::text(b"element count"),
+        9 => say::text(b"point count"),
+        10 => say::text(b"glyph count"),
+        _ => say::text(b"width range count"),
+    }
+}
+
+pub fn header_rule(field: usize) {
+    match field {
+        1 => say::text(b"0 to 32767"),
+        2 | 10 => say::text(b"0 to 16384"),
+        3 => say::text(b"bits 31 (label policy) and 30 (show dummies); the rest are 0"),
+        8 => say::text(b"0 to 3072"),
+        9 => say::text(b"0 to 8192"),
+        _ => say::text(b"0 to 1024"),
+    }
+}
+
+fn node_field(field: usize) {
+    match field {
+        0 => say::text(b"x"),
+        1 => say::text(b"y"),
+        2 => say::text(b"width"),
+        3 => say::text(b"height"),
+        4 => say::text(b"label start"),
+        5 => say::text(b"label count"),
+        6 => say::text(b"flags"),
+        7 => say::text(b"loop x"),
+        _ => say::text(b"loop y"),
+    }
+}
+
+fn edge_field(field: usize) {
+    match field {
+        0 => say::text(b"from x"),
+        1 => say::text(b"from y"),
+        2 => say::text(b"to x"),
+        3 => say::text(b"to y"),
+        4 => say::text(b"flags"),
+        5 => say::text(b"a"),
+        6 => say::text(b"b"),
+        7 => say::text(b"c"),
+        8 => say::text(b"label start"),
+        9 => say::text(b"label count"),
+        10 => say::text(b"colour"),
+        _ => say::text(b"label colour"),
+    }
+}
+
+fn subgraph_field(field: usize) {
+    match field {
+        7 => say::text(b"colour"),
+        _ => node_field(field),
+    }
+}
+
+fn placed_label_field(field: usize) {
+    match field {
+        0 => say::text(b"edge"),
+        1 => say::text(b"x"),
+        2 => say::text(b"y"),
+        _ => say::text(b"flags"),
+    }
+}
+
+fn element_field(field: usize) {
+    match field {
+        0 => say::text(b"kind"),
+        1 => say::text(b"index"),
+        2 => say::text(b"first row"),
+        _ => say::text(b"last row"),
+    }
+}
+
+fn point_field(field: usize) {
+    match field {
+        0 => say::text(b"x"),
+        _ => say::text(b"y"),
+    }
+}
+
+fn range_field(field: usize) {
+    match field {
+        0 => say::text(b"first"),
+        1 => say::text(b"last"),
+        _ => say::text(b"width"),
+    }
+}
+
+pub fn field(kind: RecordKind, field: usize) {
+    match kind {
+        RecordKind::Node => node_field(field),
+        RecordKind::Edge => edge_field(field),
+        RecordKind::Subgraph => subgraph_field(field),
+        RecordKind::PlacedLabel => placed_label_field(field),
+        RecordKind::Element => element_field(field),
+        RecordKind::Point => point_field(field),
+        RecordKind::Glyph => say::text(b"value"),
+        RecordKind::Range => range_field(field),
+    }
+}
+
+fn within() {
+    say::text(b"0 to 32767");
+}
+
+fn label_span() {
+    say::text(b"a start whose sum with the count is at most the glyph count");
+}
+
+fn node_rule(field: usize) {
+    match field {
+        4 => label_span(),
+        6 => say::text(b"kind in bits 31 and 30, self-loop in bit 29; the rest are 0"),
+        7 | 8 => say::text(b"0 to 32767 with the self-loop bit, 0 without it"),
+        _ => within(),
+    }
+}
+
+fn edge_rule(field: usize) {
+    match field {
+        4 => say::text(
+            b"path 0 to 5 in bits 31 to 29, weight 1 to 3 in bits 24 and 23, flags down to bit 22; the rest are 0",
+        ),
+        5 => say::text(
+            b"Corner and SideChannel: 0 to 32767; MultiSegment and Orthogonal: a first point whose sum with b is at most the point count; else 0",
+        ),
+        6 => say::text(
+            b"SideChannel: 0 to 32767; MultiSegment and Orthogonal: how many points; else 0",
+        ),
+        7 => say::text(b"SideChannel and MultiSegment: 0 to 32767; else 0"),
+        8 => say::text(
+            b"with the label bit a start whose sum with the count is at most the glyph count, 0 without it",
+        ),
+        9 => say::text(b"any number with the label bit, 0 without it"),
+        _ => within(),
+    }
+}
+
+fn subgraph_rule(field: usize) {
+    match field {
+        4 => label_span(),
+        6 => say::text(b"border in bits 31 and 30, label position in bit 29; the rest are 0"),
+        _ => within(),
+    }
+}
+
+fn placed_label_rule(field: usize) {
+    match field {
+        0 => say::text(b"an edge's number, below the edge count"),
+        3 => say::text(b"placeable in bit 31, row has node in bit 30; the rest are 0"),
+        _ => within(),
+    }
+}
+
+fn element_rule(field: usize) {
+    match field {
+        0 => say::text(b"0 node, 1 edge, 2 subgraph"),
+        1 => say::text(b"a number below the count of that kind"),
+        _ => within(),
+    }
+}
+
+fn range_rule(field: usize) {
+    match field {
+        2 => say::text(b"0 or 2"),
+        _ => say::text(b"0 to 1114111 (10FFFF)"),
+    }
+}
+
+pub fn rule(kind: RecordKind, field: usize) {
+    match kind {
+        RecordKind::Node => node_rule(field),
+        RecordKind::Edge => edge_rule(field),
+        RecordKind::Subgraph => subgraph_rule(field),
+        RecordKind::PlacedLabel => placed_label_rule(field),
+        RecordKind::Element => element_rule(field),
+        RecordKind::Point => within(),
+        RecordKind::Glyph => say::text(
+            b"a Unicode scalar value: 0 to 55295 (D7FF) or 57344 (E000) to 1114111 (10FFFF)",
+        ),
+        RecordKind::Range => range_rule(field),
+    }
+}

@@ -1,0 +1,2 @@
+-- Which word of which record stands at a place.
+pub mod Spots

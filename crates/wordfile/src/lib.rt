@@ -1,0 +1,37 @@
+// An image as a file: words of four bytes, most significant byte first.
+ghost use mathlib.Core.Path.{_≡_};
+ghost use Prim.Native.Nat.{_+_, _*_, _/_, _≤_, _<_, min};
+ghost use lib.ListN.{length, getD};
+ghost use Rattle.wordfile.specs.Words.{wordAt, filled};
+
+fn wide(b: u8) -> u32
+    ensures { λ r. ⌜ (r ≡ b) × (r < 256) ⌝ }
+{
+    b as u32
+}
+
+// Word k of the bytes.
+pub fn word_at(bytes: &[u8], k: usize) -> u32
+    requires { ⌜ 4 * k + 3 < length (now bytes) ⌝ }
+    ensures { λ r. ⌜ r ≡ wordAt (now (bytes .entry)) k ⌝ }
+{
+    let at = 4 * k;
+    0x100_0000 * wide(bytes[at])
+        + 0x1_0000 * wide(bytes[at + 1])
+        + 0x100 * wide(bytes[at + 2])
+        + wide(bytes[at + 3])
+}
+
+// Reads the bytes' words into the lent ones, as many as both have room for, and answers how many.
+pub fn fill(bytes: &[u8], words: &mut [u32]) -> usize
+    ensures { λ r. ⌜ r ≡ min (length (now (bytes .entry)) / 4) (length (now (words .entry))) ⌝ }
+    ensures { λ r. ⌜ now (words .exit) ≡ filled (now (bytes .entry)) (now (words .entry)) 0 (min (length (now (bytes .entry)) / 4) (length (now (words .entry)))) ⌝ }
+{
+    let count = ground::lower(bytes.len() / 4, words.len());
+    let mut k: usize = 0;
+    while k < count {
+        words[k] = word_at(bytes, k);
+        k += 1;
+    }
+    count
+}
