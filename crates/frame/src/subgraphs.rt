@@ -1,6 +1,5 @@
 // The border of a subgraph, its label's row and fitting part, and the rows of the sheet that it touches.
 ghost use mathlib.Core.Path.{_≡_};
-ghost use Prim.Native.Nat.{_-_};
 ghost use Rattle.frame.specs.Subgraphs.{hasBorder, hasLabel, labelRow, labelRoom, anyInk, labelInks, borderRows, labelRows, subgraphRows};
 use crate::nodes;
 use image::LabelPosition;
@@ -41,7 +40,7 @@ pub fn label_row(s: Subgraph) -> usize
     let position = s.position;
     match position {
         LabelPosition::InsideTop => y + 1,
-        LabelPosition::InsideBottom => below(y + tall, 2),
+        LabelPosition::InsideBottom => ground::below(y + tall, 2),
     }
 }
 
@@ -50,12 +49,6 @@ pub fn label_room(width: u32) -> usize
     ensures { λ r. ⌜ r ≡ labelRoom width ⌝ }
 {
     ground::upper(ground::wide(width), 4) - 4
-}
-
-fn below(a: usize, by: usize) -> usize
-    ensures { λ r. ⌜ r ≡ a - by ⌝ }
-{
-    if by <= a { a - by } else { 0 }
 }
 
 // Whether some glyph has width 1 or 2.

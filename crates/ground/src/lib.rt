@@ -1,6 +1,6 @@
 // What every layer shares: a word as an index, the lesser and the greater of two, and a place that was found.
 ghost use mathlib.Core.Path.{_≡_};
-ghost use Prim.Native.Nat.{_<_, min, max};
+ghost use Prim.Native.Nat.{_-_, _<_, min, max};
 
 // A place where something was found, or that nothing was.
 pub enum Found {
@@ -25,4 +25,11 @@ pub fn upper(a: usize, b: usize) -> usize
     ensures { λ r. ⌜ r ≡ max a b ⌝ }
 {
     if a < b { b } else { a }
+}
+
+// So much less, and 0 where that is more than there is.
+pub fn below(a: usize, by: usize) -> usize
+    ensures { λ r. ⌜ r ≡ a - by ⌝ }
+{
+    if by <= a { a - by } else { 0 }
 }

@@ -2,6 +2,7 @@
 use Prim.Native.Nat.{ℕ, _+_, _-_}
 use mathlib.Core.Bool.{Bool, true, false, not}
 use lib.Dec.{leb, ltb}
+use lib.IntN.{ℤ, pos, negsuc}
 use Rattle.ground.specs.Choice.{pick, both}
 use Rattle.cell.specs.declared.Weight.{Weight}
 use Rattle.cell.specs.declared.Weight.the-variants as weight
@@ -19,6 +20,11 @@ use Rattle.path.specs.declared.Leg.{Leg}
 -- "Let s be +1 if to y ≥ from y, else −1", and so for x
 abbrev pub flowSign : ℕ → ℕ → Bool
 flowSign from to = leb from to
+
+-- a signed sum as a place: the number itself, or that it lies below 0
+abbrev pub placeOf : ℤ → Place
+placeOf (pos n) = place.At n
+placeOf (negsuc n) = place.Below
 
 -- from + s·steps, or that it lies below 0
 unfoldable pub along : Bool → ℕ → ℕ → Place

@@ -2,7 +2,7 @@
 // checking both read them.
 ghost use mathlib.Core.Path.{_≡_};
 ghost use Prim.Native.Nat.{_+_, _≤_, _<_};
-ghost use Rattle.path.specs.Flow.{flowSign, along, sourceMarker, targetMarker, headAt, startHead, endHead, lineOf};
+ghost use Rattle.path.specs.Flow.{flowSign, placeOf, along, sourceMarker, targetMarker, headAt, startHead, endHead, lineOf};
 ghost use Rattle.path.specs.Flow.{armIf, corner, cornerBend, legBend, cornerSteps};
 ghost use Rattle.path.specs.Bounds.{bound, SmallBend, SmallLeg, SmallPlace};
 ghost use Rattle.ground.specs.Choice.{both};
@@ -134,7 +134,18 @@ pub struct Reach {
     pub runs: usize,
 }
 
-// from + s·steps. "signed 64-bit sums, compared before any cast"
+// A signed sum as a place: "compared before any cast".
+fn place_of(sum: i64) -> Place
+    ensures { λ r. ⌜ r ≡ placeOf sum ⌝ }
+{
+    if sum < 0 {
+        Place::Below
+    } else {
+        Place::At(sum as usize)
+    }
+}
+
+// from + s·steps, in "signed 64-bit sums".
 pub fn along(s: bool, from: usize, steps: usize) -> Place
     requires { ⌜ (from < 0x800000000000) × (steps < 0x800000000000) ⌝ }
     ensures { λ r. ⌜ (r ≡ along s from steps) × SmallPlace r ⌝ }
@@ -142,13 +153,10 @@ pub fn along(s: bool, from: usize, steps: usize) -> Place
     let start = from as i64;
     let by = steps as i64;
     if s {
-        return Place::At((start + by) as usize);
+        place_of(start + by)
+    } else {
+        place_of(start - by)
     }
-    let sum = start - by;
-    if sum < 0 {
-        return Place::Below;
-    }
-    Place::At(sum as usize)
 }
 
 // "Reversed swaps start and end markers"

@@ -152,3 +152,7 @@ kept image g =
 -- An image is accepted exactly when it keeps every rule.
 pub accepted-iff : (image : List ℕ) → (checked image .code ≡ 0) ↔ Keeps image
 accepted-iff image = (λ z. keeps image (accepted-none image .0 z), λ g. accepted-none image .1 (kept image g))
+
+-- Any two answers that the check's contract permits are equal.
+pub one-answer : (image : List ℕ) (r s : Answer) → r ≡ checked image → s ≡ checked image → r ≡ s
+one-answer image r s p q = p ∙ sym q

@@ -41,6 +41,11 @@ fn explain_header(image: &[u32], place: usize) {
     say::text(b"\n");
 }
 
+fn explain_short(image: &[u32]) {
+    say::count(b"the image has ", image.len());
+    say::text(b" words; a header has 12\n");
+}
+
 fn explain_length(image: &[u32], place: usize) {
     say::count(b"the image has ", image.len());
     say::count(b" words; its header and tables want ", place);
@@ -226,7 +231,7 @@ fn explain_tables(image: &[u32], code: u32, place: usize) {
 
 fn explain(image: &[u32], code: u32, place: usize) {
     match code {
-        1 => explain_length(image, 12),
+        1 => explain_short(image),
         2 => explain_header(image, place),
         3 => explain_length(image, place),
         _ => explain_tables(image, code, place),

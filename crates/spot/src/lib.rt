@@ -1,6 +1,6 @@
 // Which word of which record stands at a place of an image: what a refusal's place means to a planner's author.
 ghost use mathlib.Core.Path.{_≡_};
-ghost use Prim.Native.Nat.{_-_, _<_};
+ghost use Prim.Native.Nat.{_<_};
 ghost use Rattle.image.specs.SheetImage.{AllSmall};
 ghost use Rattle.spot.specs.Spots.{spotOf, orIn, inTable};
 use fields::RecordKind;
@@ -21,19 +21,13 @@ pub enum Spot {
     Past,
 }
 
-// How far past a table's start a place lies.
-fn past(start: usize, place: usize) -> usize
-    ensures { λ r. ⌜ r ≡ place - start ⌝ }
-{
-    if start <= place { place - start } else { 0 }
-}
-
+// The record and the field at a place of its table.
 fn in_table(kind: RecordKind, t: Table, place: usize) -> Spot
     requires { ⌜ 0 < t .size ⌝ }
     ensures { λ r. ⌜ r ≡ inTable kind t place ⌝ }
 {
     let size = t.size;
-    let words = past(t.start, place);
+    let words = ground::below(place, t.start);
     Spot::Record {
         kind: kind,
         index: words / size,
