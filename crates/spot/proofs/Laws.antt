@@ -1,4 +1,4 @@
--- A place against one kind's table, over plain variables: it lies in the table, the table has no words, and it lies past the table's end.
+-- A place against the header and against one kind's table, over plain variables.
 use Prim.Native.Nat.{ℕ, _≤_, _<_}
 use mathlib.Core.Path.{_≡_, refl}
 use mathlib.Core.Bool.{Bool, true, false}
@@ -11,12 +11,19 @@ use Rattle.image.specs.SheetImage.{tableEnd}
 use Rattle.fields.specs.declared.RecordKind.{RecordKind}
 use Rattle.fields.specs.Records.{tableOf}
 use Rattle.spot.specs.declared.Spot.{Spot}
-use Rattle.spot.specs.Spots.{inTable, orIn}
+use Rattle.spot.specs.declared.Spot.the-variants.{Header}
+use Rattle.spot.specs.Spots.{inTable, orIn, spotOf}
 
 both-false : {A : Type 0} (t u : Bool) (a b : A) → u ≡ false → b ≡ pick (both t u) a b
 both-false true u a b e = rw e
 both-false false u a b e = refl
 
+-- a word of the header
+pub header-word : (ts : Tables) (place : ℕ) → place < 12 → Header place ≡ spotOf ts place
+unfolding spotOf
+header-word ts place h = rw (lt-ltb _ _ h)
+
+-- it lies in the table, the table has no words, and it lies past the table's end
 module _ (kind : RecordKind) (ts : Tables) (place : ℕ) (later : Spot) (t : Table) (e : ℕ) (ht : t ≡ tableOf kind ts) (he : e ≡ tableEnd t) where
   pub in-this : (r : Spot) → place < e → 0 < t .size → r ≡ inTable kind t place → r ≡ orIn kind ts place later
   in-this r p q h = rw (← ht, ← he, lt-ltb _ _ p, lt-ltb _ _ q) h

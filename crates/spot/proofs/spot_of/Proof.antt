@@ -1,13 +1,13 @@
 -- `spot_of` is the header's word, or the field of the first table whose end lies past the place.
-use borrow.Author.Tests.{lt-ltb, le-ltb}
+use borrow.Author.Tests.{le-ltb}
 use Rattle.spot.specs.Spots.{spotOf}
+use Rattle.spot.proofs.Laws.{header-word}
 use borrow.Author.Needs.{needs}
 use Rattle.spot.proofs.spot_of.Statement.{statement}
 use Rattle.spot.proofs.spot_of.Tie as tie
 
 returns : tie.Need-returns
-unfolding spotOf
-returns c = rw (lt-ltb _ _ (c .if1 .taken))
+returns c = header-word _ _ (c .if1 .taken)
 
 or-in-requires : tie.Need-or-in-requires
 or-in-requires c κs = search needs
