@@ -1,13 +1,12 @@
 -- Laws over plain values, which the functions' proofs and the theorems cite.
 use Prim.Native.Nat.{ℕ, _+_, _-_, _≤_, _<_}
 use mathlib.Core.Path.{_≡_, refl, sym}
-use mathlib.Core.Bool.{Bool, true, false}
+use mathlib.Core.Bool.{Bool, true, false, _&&_}
 use mathlib.Core.List.{List, [], _∷_}
 use lib.ListN.{length, getD, set, List·getD-eq-default}
 use borrow.Author.Tests.{le-ltb, lt-ltb, eq-eqb, ne-eqb}
 use types.Run.{OneOf, miss}
 use denote.Enum.Declared.{tagOf}
-use Rattle.ground.specs.Choice.{both}
 use Rattle.cell.specs.declared.Parts.{Parts}
 use Rattle.cell.specs.declared.Parts.the-variants.{Empty, Text, Continuation, Stroke, Marker}
 use Rattle.cell.specs.OneCell.{pack, read}
@@ -57,9 +56,9 @@ unfolding isContinuation
 no-continuation word p e h = rw (← e) (continuation-of-parts p h)
 
 -- a test that fails fails together with any other
-both-false : (test : Bool) → both test false ≡ false
-both-false true = refl
-both-false false = refl
+and-false : (test : Bool) → test && false ≡ false
+and-false true = refl
+and-false false = refl
 
 -- a column past the row's end is no continuation
 pub past-end : (x : ℕ) (row : List ℕ) → length row ≤ x → isContinuation (getD row x 0) ≡ false
@@ -83,7 +82,7 @@ module _ (ranges : List ℕ) (x : ℕ) (row : List ℕ) where
   -- and nor has a wide lead without its continuation
   pub no-continuation-next : isContinuation (getD row (x + 1) 0) ≡ false → row ≡ emptyContinuation ranges x row
   unfolding emptyContinuation
-  no-continuation-next h = simp (h, both-false)
+  no-continuation-next h = simp (h, and-false)
 
   -- and nor has the last column
   pub last-column : length row ≤ x + 1 → row ≡ emptyContinuation ranges x row
@@ -108,12 +107,12 @@ module _ (ranges : List ℕ) (x : ℕ) (row : List ℕ) where
   -- and nor has a continuation after another cell
   pub no-lead-before : isWideLead ranges (getD row (x - 1) 0) ≡ false → row ≡ blankLead ranges x row
   unfolding blankLead
-  no-lead-before h = simp (h, both-false)
+  no-lead-before h = simp (h, and-false)
 
   -- and nor has the first column
   pub first-column : x ≤ 0 → row ≡ blankLead ranges x row
   unfolding blankLead
-  first-column h = simp (le-ltb 0 x h, both-false)
+  first-column h = simp (le-ltb 0 x h, and-false)
 
   module _ (new : ℕ) where
     -- an equal cell changes nothing

@@ -1,14 +1,13 @@
 -- What holds of ink in a row: it keeps the row's length, vanishes off the row, and leaves packings.
 use native.Mathlib.Omega.{arith}
 use Prim.Native.Nat.{ℕ, _+_, _-_, _≤_, _<_}
-use mathlib.Core.Bool.{Bool, true, false}
+use mathlib.Core.Bool.{Bool, true, false, cond, _&&_}
 use mathlib.Core.List.{List}
 use mathlib.Core.Path.{_≡_, refl, _∙_}
 use lib.Dec.{eqb, ltb}
 use lib.ListN.{length, getD, set, length-set, List·getD-eq-default}
 use lib.Seq.{set-out, getD-set-same, getD-set-other}
 use borrow.Author.Tests.{le-ltb}
-use Rattle.ground.specs.Choice.{pick, both}
 use Rattle.ground.proofs.Order.{by-order, by-three}
 use Rattle.cell.specs.declared.Arms.{Arms}
 use Rattle.cell.specs.declared.MarkerKind.{MarkerKind}
@@ -24,7 +23,7 @@ use Rattle.canvas.specs.ProofTable.{ProofTableRow}
 use Rattle.canvas.proofs.Laws.{past-end, last-column, no-continuation-here}
 
 -- what holds of both holds of the one that a test picks
-pick-holds : {A : Type 0} (P : A → Type 0) (test : Bool) {a b : A} → P a → P b → P (pick test a b)
+pick-holds : {A : Type 0} (P : A → Type 0) (test : Bool) {a b : A} → P a → P b → P (cond test a b)
 pick-holds P true p q = p
 pick-holds P false p q = q
 
@@ -37,7 +36,7 @@ AsLong row other = length other ≡ length row
 empty-length : (ranges : List ℕ) (x : ℕ) (row : List ℕ) → length (emptyContinuation ranges x row) ≡ length row
 unfolding emptyContinuation
 empty-length ranges x row =
-    pick-holds (AsLong row) (both (isWideLead ranges (getD row x 0)) (isContinuation (getD row (x + 1) 0)))
+    pick-holds (AsLong row) (isWideLead ranges (getD row x 0) && isContinuation (getD row (x + 1) 0))
     (length-set row _ _)
     refl
 
@@ -45,7 +44,7 @@ blank-length : (ranges : List ℕ) (x : ℕ) (row : List ℕ) → length (blankL
 unfolding blankLead
 blank-length ranges x row =
     pick-holds (AsLong row)
-    (both (isContinuation (getD row x 0)) (both (ltb 0 x) (isWideLead ranges (getD row (x - 1) 0))))
+    (isContinuation (getD row x 0) && (ltb 0 x && isWideLead ranges (getD row (x - 1) 0)))
     (length-set row _ _)
     refl
 
@@ -161,7 +160,7 @@ space-packed = text-packed space 0 (omega arith)
 empty-keeps : (ranges : List ℕ) (x : ℕ) (row : List ℕ) → AllPacked row → AllPacked (emptyContinuation ranges x row)
 unfolding emptyContinuation pack
 empty-keeps ranges x row all =
-    pick-holds AllPacked (both (isWideLead ranges (getD row x 0)) (isContinuation (getD row (x + 1) 0)))
+    pick-holds AllPacked (isWideLead ranges (getD row x 0) && isContinuation (getD row (x + 1) 0))
     (set-packed (x + 1) _ row all empty-packed)
     all
 
@@ -169,7 +168,7 @@ blank-keeps : (ranges : List ℕ) (x : ℕ) (row : List ℕ) → AllPacked row �
 unfolding blankLead
 blank-keeps ranges x row all =
     pick-holds AllPacked
-    (both (isContinuation (getD row x 0)) (both (ltb 0 x) (isWideLead ranges (getD row (x - 1) 0))))
+    (isContinuation (getD row x 0) && (ltb 0 x && isWideLead ranges (getD row (x - 1) 0)))
     (set-packed (x - 1) _ row all space-packed)
     all
 

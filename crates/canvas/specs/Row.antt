@@ -1,11 +1,10 @@
 -- "One cell", the part about neighbours: a cell put into a row, and a stroke, a marker and a glyph at a column of it. A row is the list of its cells; a
 -- column past its end reads as empty and is not written.
 use Prim.Native.Nat.{ℕ, _+_, _-_}
-use mathlib.Core.Bool.{Bool, true, false}
+use mathlib.Core.Bool.{Bool, true, false, cond, _&&_}
 use mathlib.Core.List.{List}
 use lib.ListN.{length, getD, set}
 use lib.Dec.{eqb, ltb}
-use Rattle.ground.specs.Choice.{pick, both}
 use Rattle.cell.specs.declared.Arms.{Arms}
 use Rattle.cell.specs.declared.MarkerKind.{MarkerKind}
 use Rattle.cell.specs.declared.Dir.{Dir}
@@ -41,21 +40,21 @@ isContinuation cell = continuationParts (read cell)
 -- "Overwriting a wide lead empties its continuation"
 unfoldable pub emptyContinuation : List ℕ → ℕ → List ℕ → List ℕ
 emptyContinuation ranges x row =
-    pick (both (isWideLead ranges (getD row x 0)) (isContinuation (getD row (x + 1) 0)))
+    cond (isWideLead ranges (getD row x 0) && isContinuation (getD row (x + 1) 0))
     (set row (x + 1) (pack Empty))
     row
 
 -- "overwriting a continuation by another cell turns its lead into a space"
 unfoldable pub blankLead : List ℕ → ℕ → List ℕ → List ℕ
 blankLead ranges x row =
-    pick (both (isContinuation (getD row x 0)) (both (ltb 0 x) (isWideLead ranges (getD row (x - 1) 0))))
+    cond (isContinuation (getD row x 0) && (ltb 0 x && isWideLead ranges (getD row (x - 1) 0)))
     (set row (x - 1) (pack (Text space)))
     row
 
 -- "Putting an equal cell does nothing."
 unfoldable pub put : List ℕ → ℕ → ℕ → List ℕ → List ℕ
 put ranges x new row =
-    pick (eqb (getD row x 0) new) row
+    cond (eqb (getD row x 0) new) row
     (set (blankLead ranges x (emptyContinuation ranges x row)) x new)
 
 -- a stroke and a marker at a column
@@ -72,12 +71,12 @@ letterRow ranges x ch row = put ranges x (textCell ch (getD row x 0)) row
 -- "width 2 in the last column paints a space, elsewhere lead and continuation"
 unfoldable pub wideRow : List ℕ → ℕ → ℕ → List ℕ → List ℕ
 wideRow ranges x ch row =
-    pick (ltb (x + 1) (length row))
+    cond (ltb (x + 1) (length row))
     (put ranges (x + 1) (pack Continuation) (letterRow ranges x ch row))
     (letterRow ranges x space row)
 
 -- a glyph at a column: "Width 0 paints nothing"
 unfoldable pub textRow : List ℕ → ℕ → ℕ → List ℕ → List ℕ
 textRow ranges x ch row =
-    pick (eqb (widthOf ranges ch) 0) row
-    (pick (eqb (widthOf ranges ch) 2) (wideRow ranges x ch row) (letterRow ranges x ch row))
+    cond (eqb (widthOf ranges ch) 0) row
+    (cond (eqb (widthOf ranges ch) 2) (wideRow ranges x ch row) (letterRow ranges x ch row))

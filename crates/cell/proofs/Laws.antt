@@ -2,13 +2,12 @@
 use Prim.Native.Nat.{ℕ, _+_, _*_, _/_, _%_, _≤_, _<_}
 use native.Mathlib.Omega.{arith}
 use mathlib.Core.Path.{_≡_, refl, ap, _∙_}
-use mathlib.Core.Bool.{Bool, true, false}
+use mathlib.Core.Bool.{Bool, true, false, cond}
 use mathlib.Core.List.{List, [], _∷_}
 use lib.Dec.{eqb}
 use borrow.Author.Tests.{le-leb, lt-leb}
 use types.Run.{OneOf, miss}
 use denote.Enum.Declared.{tagOf}
-use Rattle.ground.specs.Choice.{pick}
 use Rattle.cell.specs.declared.Weight.{Weight}
 use Rattle.cell.specs.declared.Weight.the-variants as weight
 use Rattle.cell.specs.declared.MarkerKind.{MarkerKind}
@@ -66,7 +65,7 @@ dir-small Down = omega arith
 dir-small Left = omega arith
 dir-small Right = omega arith
 
-pub dashed-small : (b : Bool) → pick b 1 0 ≤ 1
+pub dashed-small : (b : Bool) → cond b 1 0 ≤ 1
 dashed-small true = omega arith
 dashed-small false = omega arith
 
@@ -87,7 +86,7 @@ dir-back Down = refl
 dir-back Left = refl
 dir-back Right = refl
 
-dashed-back : (b : Bool) → eqb (pick b 1 0) 1 ≡ b
+dashed-back : (b : Bool) → eqb (cond b 1 0) 1 ≡ b
 dashed-back true = refl
 dashed-back false = refl
 
@@ -154,7 +153,7 @@ read-text ch w h e =
 -- A stroke or a marker on valid parts leaves valid parts.
 
 -- what holds of both holds of the one that a test picks
-pick-holds : {A : Type 0} (P : A → Type 0) (t : Bool) {a b : A} → P a → P b → P (pick t a b)
+pick-holds : {A : Type 0} (P : A → Type 0) (t : Bool) {a b : A} → P a → P b → P (cond t a b)
 pick-holds P true p q = p
 pick-holds P false p q = q
 

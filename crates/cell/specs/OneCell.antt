@@ -1,9 +1,8 @@
 -- "One cell": its parts, how they are packed into a word and read back, and the three rules by which ink falls on what is there.
 use Prim.Native.Nat.{ℕ, _+_, _*_, _/_, _%_, _≤_}
-use mathlib.Core.Bool.{Bool, true, false}
+use mathlib.Core.Bool.{Bool, true, false, cond, _||_}
 use mathlib.Core.Path.{_≡_}
 use lib.Dec.{eqb, leb}
-use Rattle.ground.specs.Choice.{pick, either}
 use Rattle.cell.specs.declared.Weight.{Weight}
 use Rattle.cell.specs.declared.Weight.the-variants as weight
 use Rattle.cell.specs.declared.MarkerKind.{MarkerKind}
@@ -40,13 +39,13 @@ dirNumber Right = 3
 
 abbrev pub weightOf : ℕ → Weight
 weightOf n =
-    pick (eqb n 1) weight.Dashed (pick (eqb n 2) weight.Light (pick (eqb n 3) weight.Double weight.None))
+    cond (eqb n 1) weight.Dashed (cond (eqb n 2) weight.Light (cond (eqb n 3) weight.Double weight.None))
 
 abbrev pub kindOf : ℕ → MarkerKind
-kindOf n = pick (eqb n 2) SelfLoop (pick (eqb n 3) Dummy Arrow)
+kindOf n = cond (eqb n 2) SelfLoop (cond (eqb n 3) Dummy Arrow)
 
 abbrev pub dirOf : ℕ → Dir
-dirOf n = pick (eqb n 0) Up (pick (eqb n 1) Down (pick (eqb n 2) Left Right))
+dirOf n = cond (eqb n 0) Up (cond (eqb n 1) Down (cond (eqb n 2) Left Right))
 
 -- The arms of a line that goes through a cell.
 
@@ -66,7 +65,7 @@ packArms a =
 
 -- "kind in bits 3..0, direction in 5..4, dashed in bit 6"
 unfoldable pub packMarker : MarkerKind → Dir → Bool → ℕ
-packMarker kind dir dashed = kindNumber kind + 16 * dirNumber dir + 64 * pick dashed 1 0
+packMarker kind dir dashed = kindNumber kind + 16 * dirNumber dir + 64 * cond dashed 1 0
 
 -- "Text: code point; bit 21 alone is a continuation." A code point has 21 bits.
 unfoldable pub pack : Parts → ℕ
@@ -87,16 +86,16 @@ readArms w = record {
 }
 
 unfoldable pub readText : ℕ → Parts
-readText w = pick (eqb (w / 0x200000 % 2) 1) Continuation (Text (w % 0x200000))
+readText w = cond (eqb (w / 0x200000 % 2) 1) Continuation (Text (w % 0x200000))
 
 unfoldable pub readMarker : ℕ → Parts
 readMarker w = Marker (kindOf (w % 16)) (dirOf (w / 16 % 4)) (eqb (w / 64 % 2) 1)
 
 unfoldable pub read : ℕ → Parts
 read w =
-    pick (eqb (w / 0x40000000) 0) Empty
-    (pick (eqb (w / 0x40000000) 1) (readText w)
-    (pick (eqb (w / 0x40000000) 2) (Stroke (readArms w)) (readMarker w)))
+    cond (eqb (w / 0x40000000) 0) Empty
+    (cond (eqb (w / 0x40000000) 1) (readText w)
+    (cond (eqb (w / 0x40000000) 2) (Stroke (readArms w)) (readMarker w)))
 
 -- The parts that a picture has: a text's code point is one of Unicode's.
 unfoldable pub Valid : Parts → Type 0
@@ -116,7 +115,7 @@ pub record Packed (w : ℕ) : Type 0 where
 
 -- "the greater weight per arm"
 abbrev pub heavier : Weight → Weight → Weight
-heavier a b = pick (leb (weightNumber b) (weightNumber a)) a b
+heavier a b = cond (leb (weightNumber b) (weightNumber a)) a b
 
 unfoldable pub heavierArms : Arms → Arms → Arms
 heavierArms a b = record {
@@ -131,7 +130,7 @@ isDouble w = eqb (weightNumber w) 3
 
 -- "with one", a Double arm
 unfoldable pub hasDouble : Arms → Bool
-hasDouble a = either (isDouble (a .up)) (either (isDouble (a .down)) (either (isDouble (a .left)) (isDouble (a .right))))
+hasDouble a = isDouble (a .up) || (isDouble (a .down) || (isDouble (a .left) || isDouble (a .right)))
 
 -- "a Light stem in its direction"
 abbrev pub stem : Dir → Arms
@@ -149,10 +148,10 @@ doubleOnMarker new Dummy dir = Stroke new
 -- "A stroke on a stroke takes the greater weight per arm; on empty, itself. On text or a marker it does nothing without a Double arm; with one it replaces text .."
 unfoldable pub strokeOn : Arms → Parts → Parts
 strokeOn new Empty = Stroke new
-strokeOn new (Text ch) = pick (hasDouble new) (Stroke new) (Text ch)
-strokeOn new Continuation = pick (hasDouble new) (Stroke new) Continuation
+strokeOn new (Text ch) = cond (hasDouble new) (Stroke new) (Text ch)
+strokeOn new Continuation = cond (hasDouble new) (Stroke new) Continuation
 strokeOn new (Stroke old) = Stroke (heavierArms old new)
-strokeOn new (Marker kind dir dashed) = pick (hasDouble new) (doubleOnMarker new kind dir) (Marker kind dir dashed)
+strokeOn new (Marker kind dir dashed) = cond (hasDouble new) (doubleOnMarker new kind dir) (Marker kind dir dashed)
 
 -- "A marker replaces all but text."
 unfoldable pub markerOn : MarkerKind → Dir → Bool → Parts → Parts

@@ -27,7 +27,7 @@ fn next_count() -> Next
     if got < 4 {
         return Next::Unread;
     }
-    let count = ground::wide(wordfile::word_at(&head, 0));
+    let count = ground::number(wordfile::word_at(&head, 0));
     if count <= 131072 {
         Next::Image(count)
     } else {

@@ -4,13 +4,12 @@ use native.Mathlib.Omega.{arith}
 use native.Mathlib.Numerals.{add-one}
 use mathlib.Core.Path.{_≡_, refl, sym, _∙_}
 use mathlib.Core.Logic.{_↔_}
-use mathlib.Core.Bool.{Bool, true, false}
+use mathlib.Core.Bool.{Bool, true, false, cond, _&&_, _||_}
 use mathlib.Core.List.{List}
 use lib.ListN.{length, getD, set, replicate, length-set, length-replicate, getD-replicate}
 use lib.Seq.{getD-set-same, getD-set-other}
 use lib.Dec.{eqb, ltb}
 use borrow.Author.Tests.{eqb-true, eq-eqb, ne-eqb, ltb-false, lt-ltb, le-ltb}
-use Rattle.ground.specs.Choice.{pick, both, either}
 use Rattle.ground.specs.First.{orElse, foundIf, firstFrom}
 use Rattle.ground.specs.declared.Found.{Found}
 use Rattle.ground.specs.declared.Found.the-variants as found
@@ -34,13 +33,13 @@ not-found found.None h = refl
 not-found (found.At k) h = let z : _≡_ {A = ℕ} 0 1 = cc in absurd (omega arith)
 
 -- the tests of two pairs of numbers, both of which hold
-pairs-true : (a b c d : ℕ) (s t : Bool) → eqb a b ≡ s → eqb c d ≡ t → both s t ≡ true → (a ≡ b) × (c ≡ d)
+pairs-true : (a b c d : ℕ) (s t : Bool) → eqb a b ≡ s → eqb c d ≡ t → s && t ≡ true → (a ≡ b) × (c ≡ d)
 pairs-true a b c d true true p q h = (eqb-true a b p, eqb-true c d q)
 pairs-true a b c d true false p q h = let z : _≡_ {A = ℕ} 0 1 = cc in absurd (omega arith)
 pairs-true a b c d false t p q h = let z : _≡_ {A = ℕ} 0 1 = cc in absurd (omega arith)
 
 -- the tests of two pairs of numbers that are not both equal
-pairs-false : (a b c d : ℕ) (s t : Bool) → eqb a b ≡ s → eqb c d ≡ t → (a ≡ b → c ≡ d → ⊥) → both s t ≡ false
+pairs-false : (a b c d : ℕ) (s t : Bool) → eqb a b ≡ s → eqb c d ≡ t → (a ≡ b → c ≡ d → ⊥) → s && t ≡ false
 pairs-false a b c d true true p q h = absurd (h (eqb-true a b p) (eqb-true c d q))
 pairs-false a b c d true false p q h = refl
 pairs-false a b c d false t p q h = refl
@@ -121,7 +120,7 @@ twice-good-iff image ts = (
 -- the rows of an element are in order where it is not broken
 rows-good :
     (first last before k : ℕ) (s t u : Bool) → ltb last first ≡ s → ltb 0 k ≡ t → ltb first before ≡ u →
-    either s (both t u) ≡ false → (first ≤ last) × (0 < k → before ≤ first)
+    s || (t && u) ≡ false → (first ≤ last) × (0 < k → before ≤ first)
 rows-good first last before k true t u p q r h = let z : _≡_ {A = ℕ} 0 1 = cc in absurd (omega arith)
 rows-good first last before k false true true p q r h = let z : _≡_ {A = ℕ} 0 1 = cc in absurd (omega arith)
 rows-good first last before k false true false p q r h = (ltb-false last first p, λ o. ltb-false first before r)
@@ -130,7 +129,7 @@ rows-good first last before k false false u p q r h = (ltb-false last first p, �
 -- an element is not broken where its rows are in order
 good-rows :
     (first last before k : ℕ) → first ≤ last → (0 < k → before ≤ first) →
-    either (ltb last first) (both (ltb 0 k) (ltb first before)) ≡ false
+    ltb last first || (ltb 0 k && ltb first before) ≡ false
 good-rows first last before k p q =
     by-order 0 k (λ o. simp (le-ltb _ _ p, lt-ltb _ _ o, le-ltb _ _ (q o))) (λ o. simp (le-ltb _ _ p, le-ltb _ _ o))
 
@@ -205,7 +204,7 @@ turn-twice :
     (word place : ℕ) (l walked later : Found) →
     slotListing word ≡ l →
     (word ≡ 0 → walked ≡ later) →
-    pick (eqb word 0) walked (found.At place) ≡ orElse (foundIf (isFound l) place) later
+    cond (eqb word 0) walked (found.At place) ≡ orElse (foundIf (isFound l) place) later
 turn-twice zero place l walked later e more = rw (← e) (more refl)
 turn-twice (suc k) place l walked later e more = rw (← e, ne-eqb (suc k) 0 (λ z. omega arith))
 
@@ -215,7 +214,7 @@ turn-slots :
     slotListing word ≡ l →
     orElse (foundIf (isFound l) place) later ≡ found.None →
     (word ≡ 0 → later ≡ found.None → P next) →
-    P (pick (eqb word 0) next slots)
+    P (cond (eqb word 0) next slots)
 turn-slots P zero place l later next slots e none more = more refl (rw (← e) at none)
 turn-slots P (suc k) place l later next slots e none more =
     let hit : found.At place ≡ found.None = rw (← e) at none in

@@ -1,9 +1,8 @@
 -- The list of elements by itself: codes 7 and 8, and each thing's listing.
 use Prim.Native.Nat.{ℕ, _+_, _-_, _≤_, _<_}
-use mathlib.Core.Bool.{Bool, true, false}
+use mathlib.Core.Bool.{Bool, true, false, _&&_, _||_}
 use mathlib.Core.List.{List}
 use lib.Dec.{eqb, ltb}
-use Rattle.ground.specs.Choice.{both, either}
 use Rattle.ground.specs.First.{foundIf, firstFrom}
 use Rattle.ground.specs.declared.Found.{Found}
 use Rattle.ground.specs.declared.Found.the-variants as found
@@ -26,7 +25,7 @@ lastRow image ts k = word image (recordAt (ts .elements) k + 3)
 
 -- element k names this thing
 abbrev pub names : List ℕ → Tables → ℕ → ℕ → ℕ → Bool
-names image ts kind index k = both (eqb (kindOf image ts k) kind) (eqb (indexOf image ts k) index)
+names image ts kind index k = eqb (kindOf image ts k) kind && eqb (indexOf image ts k) index
 
 -- the first element, of so many from element k on, that names this thing
 unfoldable pub lister : List ℕ → Tables → ℕ → ℕ → ℕ → ℕ → Found
@@ -48,8 +47,7 @@ badTwice image ts = firstFrom (λ k. foundIf (listedBefore image ts k) (recordAt
 
 abbrev pub rowsBroken : List ℕ → Tables → ℕ → Bool
 rowsBroken image ts k =
-    either (ltb (lastRow image ts k) (firstRow image ts k))
-    (both (ltb 0 k) (ltb (firstRow image ts k) (firstRow image ts (k - 1))))
+    ltb (lastRow image ts k) (firstRow image ts k) || (ltb 0 k && ltb (firstRow image ts k) (firstRow image ts (k - 1)))
 
 unfoldable pub badOrder : List ℕ → Tables → Found
 badOrder image ts = firstFrom (λ k. foundIf (rowsBroken image ts k) (recordAt (ts .elements) k)) 0 (ts .elements .count)

@@ -13,7 +13,7 @@ use image::word;
 pub fn slot_of(kind: u32, index: u32) -> usize
     ensures { λ r. ⌜ r ≡ slotOf kind index ⌝ }
 {
-    1024 * ground::wide(kind) + ground::wide(index)
+    1024 * ground::number(kind) + ground::number(index)
 }
 
 fn element_slot(image: &[u32], ts: Tables, k: usize) -> usize

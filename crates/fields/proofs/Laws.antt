@@ -2,14 +2,13 @@
 use native.Mathlib.Omega.{arith}
 use native.Mathlib.Nat.{add-zero}
 use Prim.Native.Nat.{ℕ, _+_, _-_, _%_, _≤_, _<_}
-use mathlib.Core.Bool.{true}
+use mathlib.Core.Bool.{true, _||_}
 use mathlib.Core.List.{List}
 use mathlib.Core.Path.{_≡_}
 use lib.Dec.{eqb, leb, ltb}
 use borrow.Author.Tests.{eq-eqb, ne-eqb}
 use Rattle.ground.proofs.Order.{by-order}
 use Rattle.ground.proofs.First.{first-whole, bad-step, bad-end, or-assoc, or-none}
-use Rattle.ground.specs.Choice.{either}
 use Rattle.ground.specs.First.{orElse, foundIf, firstFrom}
 use Rattle.ground.specs.declared.Found.{Found}
 use Rattle.image.specs.declared.Table.{Table}
@@ -23,7 +22,7 @@ use Rattle.fields.specs.Records.{within, isZero, spanGood, loopGood, edg
 use Rattle.fields.specs.Records.{missing, fourBad, pathBad, labelBad, tableOf, badRecord, badIn, badField}
 
 -- a number that is one of two neighbours
-in-pair : (p n : ℕ) → n ≤ p → p < n + 2 → either (eqb p n) (eqb p (n + 1)) ≡ true
+in-pair : (p n : ℕ) → n ≤ p → p < n + 2 → eqb p n || eqb p (n + 1) ≡ true
 in-pair p n h q =
     by-order n p
     (λ o. let e : p ≡ n + 1 = omega arith in let d : p ≡ n → ⊥ = omega arith in simp (ne-eqb _ _ d, eq-eqb _ _ e))

@@ -1,9 +1,8 @@
 -- Code 4: "a record field breaks its rule; an index or start + count leaves its table". A record's words in turn, each good or not.
 use Prim.Native.Nat.{ℕ, _+_, _/_, _%_}
-use mathlib.Core.Bool.{Bool, true, false, not}
+use mathlib.Core.Bool.{Bool, true, false, not, cond, _&&_, _||_}
 use mathlib.Core.List.{List, [], _∷_}
 use lib.Dec.{eqb, leb, ltb}
-use Rattle.ground.specs.Choice.{pick, both, either}
 use Rattle.ground.specs.First.{orElse, foundIf, firstFrom, firstBad}
 use Rattle.ground.specs.declared.Found.{Found}
 use Rattle.fields.specs.declared.RecordKind.{RecordKind}
@@ -25,7 +24,7 @@ spanGood start count held = leb (start + count) held
 
 -- node: kind and self-loop in bits 31..29, the rest spare; "loop x, loop y (both 0 without the bit)"
 abbrev pub loopGood : ℕ → ℕ → Bool
-loopGood flags n = pick (flag flags 0x20000000) (within n) (isZero n)
+loopGood flags n = cond (flag flags 0x20000000) (within n) (isZero n)
 
 abbrev pub nodeWords : List ℕ → Tables → ℕ → List Bool
 nodeWords image ts at =
@@ -41,29 +40,29 @@ pathNumber flags = flags / 0x20000000
 
 abbrev pub edgeFlagsGood : ℕ → Bool
 edgeFlagsGood flags =
-    both (leb (pathNumber flags) 5) (both (ltb 0 (flags / 0x00800000 % 4)) (isZero (flags % 0x00400000)))
+    leb (pathNumber flags) 5 && (ltb 0 (flags / 0x00800000 % 4) && isZero (flags % 0x00400000))
 
 -- "Corner: a bend. SideChannel: channel, span start, span end. MultiSegment: first point, count, start offset. Orthogonal: first point, count. Unused a, b,
 -- c are 0."
 
 abbrev pub aGood : ℕ → ℕ → ℕ → ℕ → Bool
 aGood path a b points =
-    pick (either (eqb path 1) (eqb path 2)) (within a)
-    (pick (either (eqb path 3) (eqb path 4)) (spanGood a b points) (isZero a))
+    cond (eqb path 1 || eqb path 2) (within a)
+    (cond (eqb path 3 || eqb path 4) (spanGood a b points) (isZero a))
 
 abbrev pub bGood : ℕ → ℕ → Bool
-bGood path b = pick (eqb path 2) (within b) (pick (either (eqb path 3) (eqb path 4)) true (isZero b))
+bGood path b = cond (eqb path 2) (within b) (cond (eqb path 3 || eqb path 4) true (isZero b))
 
 abbrev pub cGood : ℕ → ℕ → Bool
-cGood path c = pick (either (eqb path 2) (eqb path 3)) (within c) (isZero c)
+cGood path c = cond (eqb path 2 || eqb path 3) (within c) (isZero c)
 
 -- "label present 1 (else start and count 0)"
 
 abbrev pub labelStartGood : ℕ → ℕ → ℕ → ℕ → Bool
-labelStartGood flags start count glyphs = pick (flag flags 0x00400000) (spanGood start count glyphs) (isZero start)
+labelStartGood flags start count glyphs = cond (flag flags 0x00400000) (spanGood start count glyphs) (isZero start)
 
 abbrev pub labelCountGood : ℕ → ℕ → Bool
-labelCountGood flags count = pick (flag flags 0x00400000) true (isZero count)
+labelCountGood flags count = cond (flag flags 0x00400000) true (isZero count)
 
 abbrev pub edgeWords : List ℕ → Tables → ℕ → List Bool
 edgeWords image ts at =
@@ -90,7 +89,7 @@ placedLabelWords image ts at =
 
 -- element: "kind (0 Node, 1 Edge, 2 Subgraph), index"
 abbrev pub countOf : Tables → ℕ → ℕ
-countOf ts kind = pick (eqb kind 0) (ts .nodes .count) (pick (eqb kind 1) (ts .edges .count) (ts .subgraphs .count))
+countOf ts kind = cond (eqb kind 0) (ts .nodes .count) (cond (eqb kind 1) (ts .edges .count) (ts .subgraphs .count))
 
 abbrev pub elementWords : List ℕ → Tables → ℕ → List Bool
 elementWords image ts at =
@@ -102,13 +101,13 @@ pointWords image ts at = within (word image at) ∷ within (word image (at + 1))
 
 -- "Glyph, 1: a Unicode scalar value."
 abbrev pub scalarGood : ℕ → Bool
-scalarGood n = either (ltb n 0xD800) (both (leb 0xE000 n) (leb n 0x10FFFF))
+scalarGood n = ltb n 0xD800 || (leb 0xE000 n && leb n 0x10FFFF)
 
 abbrev pub glyphWords : List ℕ → Tables → ℕ → List Bool
 glyphWords image ts at = scalarGood (word image at) ∷ []
 
 abbrev pub widthGood : ℕ → Bool
-widthGood n = either (isZero n) (eqb n 2)
+widthGood n = isZero n || eqb n 2
 
 -- "first, last (each to 10FFFF), width 0 or 2"
 abbrev pub rangeWords : List ℕ → Tables → ℕ → List Bool

@@ -22,7 +22,7 @@ use image::word;
 fn span_good(start: u32, count: u32, held: usize) -> bool
     ensures { λ r. ⌜ r ≡ leb (start + count) held ⌝ }
 {
-    ground::wide(start) + ground::wide(count) <= held
+    ground::number(start) + ground::number(count) <= held
 }
 
 // The four coordinates or extents at the start of a record.
@@ -190,7 +190,7 @@ fn bad_placed_label(image: &[u32], ts: Tables, at: usize) -> Found
     ensures { λ r. ⌜ r ≡ badRecord RecordKind.PlacedLabel (now (image .entry)) ts at ⌝ }
 {
     let edges = ts.edges;
-    let edge = unless(ground::wide(word(image, at)) < edges.count, at);
+    let edge = unless(ground::number(word(image, at)) < edges.count, at);
     let spare = unless(word(image, at + 3) % 0x4000_0000 == 0, at + 3);
     or_else(
         edge,
@@ -221,7 +221,7 @@ fn bad_element(image: &[u32], ts: Tables, at: usize) -> Found
 {
     let kind = word(image, at);
     let index = unless(
-        ground::wide(word(image, at + 1)) < count_of(ts, kind),
+        ground::number(word(image, at + 1)) < count_of(ts, kind),
         at + 1,
     );
     or_else(

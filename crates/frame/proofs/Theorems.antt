@@ -2,7 +2,6 @@
 use Prim.Native.Nat.{ℕ, _+_, _-_}
 use mathlib.Core.Bool.{Bool, true, false}
 use mathlib.Core.List.{List}
-use Rattle.ground.specs.Choice.{pick}
 use Rattle.image.specs.declared.Node.{Node}
 use Rattle.image.specs.declared.SelfLoop.{SelfLoop}
 use Rattle.image.specs.declared.SelfLoop.the-variants as loop
@@ -10,7 +9,7 @@ use Rattle.image.specs.declared.Subgraph.{Subgraph}
 use Rattle.rows.specs.declared.Rows.{Rows}
 use Rattle.rows.specs.declared.Rows.the-variants as rows
 use Rattle.rows.specs.SheetRows.{sheetRows, Whole}
-use Rattle.rows.proofs.Theorems.{sheet-rows-whole, join-whole, pick-whole}
+use Rattle.rows.proofs.Theorems.{sheet-rows-whole, join-whole, cond-whole}
 use Rattle.frame.specs.declared.Look.{Look}
 use Rattle.frame.specs.declared.Look.the-variants.{Hidden, Dummy, Box, Simple, Blank}
 use Rattle.frame.specs.Nodes.{boxRows, loopRows, lookRows, lookOf, nodeRows}
@@ -47,5 +46,5 @@ pub subgraph-rows-whole :
 unfolding subgraphRows
 subgraph-rows-whole height ranges s label =
     join-whole (borderRows height s) (labelRows height ranges s label)
-    (pick-whole (hasBorder s) _ (sheet-rows-whole height _ _))
-    (pick-whole (labelInks ranges s label) _ (sheet-rows-whole height _ _))
+    (cond-whole (hasBorder s) _ (sheet-rows-whole height _ _))
+    (cond-whole (labelInks ranges s label) _ (sheet-rows-whole height _ _))

@@ -1,8 +1,7 @@
 -- "Nodes": how a node looks, and the rows of the sheet that it touches.
 use Prim.Native.Nat.{ℕ, _+_, _-_}
-use mathlib.Core.Bool.{Bool, true, false}
+use mathlib.Core.Bool.{Bool, true, false, cond, _&&_}
 use lib.Dec.{leb}
-use Rattle.ground.specs.Choice.{pick, both}
 use Rattle.image.specs.declared.NodeKind.{NodeKind}
 use Rattle.image.specs.declared.NodeKind.the-variants as kind
 use Rattle.image.specs.declared.SelfLoop.{SelfLoop}
@@ -16,14 +15,14 @@ use Rattle.frame.specs.declared.Look.the-variants.{Hidden, Dummy, Box, S
 
 -- "Boxed with height ≥ 3 and width ≥ 2: Light box .. Boxed otherwise, and simple: `[` always"
 abbrev pub boxOrSimple : ℕ → ℕ → Look
-boxOrSimple width height = pick (both (leb 3 height) (leb 2 width)) Box Simple
+boxOrSimple width height = cond (leb 3 height && leb 2 width) Box Simple
 
 -- "Dummy: a Dummy Up marker if shown, nothing else."
 abbrev pub lookFor : Bool → NodeKind → ℕ → ℕ → Look
 lookFor show kind.Simple width height = Simple
 lookFor show kind.Boxed width height = boxOrSimple width height
 lookFor show kind.Blank width height = Blank
-lookFor show kind.Dummy width height = pick show Dummy Hidden
+lookFor show kind.Dummy width height = cond show Dummy Hidden
 
 unfoldable pub lookOf : Bool → Node → Look
 lookOf show n = lookFor show (n .kind) (n .width) (n .height)

@@ -1,10 +1,9 @@
 -- "Subgraphs": the border, the label's row and fitting part, and the rows of the sheet that a subgraph touches.
 use Prim.Native.Nat.{ℕ, _+_, _-_, max}
-use mathlib.Core.Bool.{Bool, true, false, not}
+use mathlib.Core.Bool.{Bool, true, false, not, cond, _&&_, _||_}
 use mathlib.Core.List.{List, [], _∷_}
 use lib.ListN.{length}
 use lib.Dec.{leb, ltb, eqb}
-use Rattle.ground.specs.Choice.{pick, both, either}
 use Rattle.cell.specs.OneCell.{weightNumber}
 use Rattle.glyph.specs.Width.{widthOf}
 use Rattle.glyph.specs.Fitting.{fitting}
@@ -18,11 +17,11 @@ use Rattle.frame.specs.Nodes.{boxRows}
 
 -- "Border if width and height ≥ 2", and 0 is no border
 unfoldable pub hasBorder : Subgraph → Bool
-hasBorder s = both (ltb 0 (weightNumber (s .border))) (both (leb 2 (s .width)) (leb 2 (s .height)))
+hasBorder s = ltb 0 (weightNumber (s .border)) && (leb 2 (s .width) && leb 2 (s .height))
 
 -- "Label at x + 2 if nonempty, width ≥ 4, height ≥ 3"
 unfoldable pub hasLabel : Subgraph → List ℕ → Bool
-hasLabel s label = both (ltb 0 (length label)) (both (leb 4 (s .width)) (leb 3 (s .height)))
+hasLabel s label = ltb 0 (length label) && (leb 4 (s .width) && leb 3 (s .height))
 
 -- "on row y + 1 or y + height − 2"
 abbrev pub rowAt : Subgraph → LabelPosition → ℕ
@@ -39,17 +38,17 @@ labelRoom width = max width 4 - 4
 -- some glyph has width 1 or 2
 unfoldable pub anyInk : List ℕ → List ℕ → Bool
 anyInk ranges [] = false
-anyInk ranges (ch ∷ label) = either (ltb 0 (widthOf ranges ch)) (anyInk ranges label)
+anyInk ranges (ch ∷ label) = ltb 0 (widthOf ranges ch) || anyInk ranges label
 
 -- the label makes a glyph of width 1 or 2
 unfoldable pub labelInks : List ℕ → Subgraph → List ℕ → Bool
-labelInks ranges s label = both (hasLabel s label) (anyInk ranges (fitting ranges (labelRoom (s .width)) label))
+labelInks ranges s label = hasLabel s label && anyInk ranges (fitting ranges (labelRoom (s .width)) label)
 
 abbrev pub borderRows : ℕ → Subgraph → Rows
-borderRows height s = pick (hasBorder s) (boxRows height (s .y) (s .height)) rows.None
+borderRows height s = cond (hasBorder s) (boxRows height (s .y) (s .height)) rows.None
 
 abbrev pub labelRows : ℕ → List ℕ → Subgraph → List ℕ → Rows
-labelRows height ranges s label = pick (labelInks ranges s label) (sheetRows height (labelRow s) (labelRow s)) rows.None
+labelRows height ranges s label = cond (labelInks ranges s label) (sheetRows height (labelRow s) (labelRow s)) rows.None
 
 unfoldable pub subgraphRows : ℕ → List ℕ → Subgraph → List ℕ → Rows
 subgraphRows height ranges s label = joinRows (borderRows height s) (labelRows height ranges s label)

@@ -41,7 +41,7 @@ fn loop_rows(height: usize, at: SelfLoop) -> Rows
     let SelfLoop::At { x, y } = at else {
         return Rows::None;
     };
-    let row = ground::wide(y);
+    let row = ground::number(y);
     rows::sheet_rows(height, row, row)
 }
 
@@ -49,8 +49,8 @@ fn loop_rows(height: usize, at: SelfLoop) -> Rows
 pub fn box_rows(height: usize, y: u32, tall: u32) -> Rows
     ensures { λ r. ⌜ r ≡ boxRows height y tall ⌝ }
 {
-    let first = ground::wide(y);
-    let end = first + ground::wide(tall);
+    let first = ground::number(y);
+    let end = first + ground::number(tall);
     if 0 < end {
         rows::sheet_rows(height, first, end - 1)
     } else {
@@ -62,7 +62,7 @@ pub fn box_rows(height: usize, y: u32, tall: u32) -> Rows
 pub fn node_rows(height: usize, show_dummies: bool, n: Node) -> Rows
     ensures { λ r. ⌜ r ≡ nodeRows height «show_dummies» n ⌝ }
 {
-    let row = ground::wide(n.y);
+    let row = ground::number(n.y);
     let at = n.self_loop;
     let look = look_of(show_dummies, n);
     match look {

@@ -35,12 +35,12 @@ pub fn has_label(s: Subgraph, label: &[u32]) -> bool
 pub fn label_row(s: Subgraph) -> usize
     ensures { λ r. ⌜ r ≡ labelRow s ⌝ }
 {
-    let y = ground::wide(s.y);
-    let tall = ground::wide(s.height);
+    let y = ground::number(s.y);
+    let tall = ground::number(s.height);
     let position = s.position;
     match position {
         LabelPosition::InsideTop => y + 1,
-        LabelPosition::InsideBottom => ground::below(y + tall, 2),
+        LabelPosition::InsideBottom => ground::minus(y + tall, 2),
     }
 }
 
@@ -48,7 +48,7 @@ pub fn label_row(s: Subgraph) -> usize
 pub fn label_room(width: u32) -> usize
     ensures { λ r. ⌜ r ≡ labelRoom width ⌝ }
 {
-    ground::upper(ground::wide(width), 4) - 4
+    ground::max(ground::number(width), 4) - 4
 }
 
 // Whether some glyph has width 1 or 2.

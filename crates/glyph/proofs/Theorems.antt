@@ -10,20 +10,20 @@ use borrow.Author.Tests.{lt-ltb, le-ltb, le-leb, lt-leb}
 use Rattle.glyph.specs.Width.{InOrder, bisect, middle, widthOf, firstOf, lastOf, rangeWidth, rangeCount}
 use Rattle.glyph.specs.Fitting.{columns, fitCount, fitting, LongestPrefix}
 use Rattle.glyph.proofs.Laws.{by-range}
-use Rattle.ground.proofs.Order.{by-order, by-three, pick-bound}
+use Rattle.ground.proofs.Order.{by-order, by-three, cond-bound}
 
 range-bound : (t : List ℕ) (k : ℕ) → rangeWidth t k ≤ 2
 range-bound t k =
     let word = getD t (3 * k + 2) 0 in
-    pick-bound (eqb word 0) 0 _ 2 (omega arith) (pick-bound (eqb word 2) 2 1 2 (omega arith) (omega arith))
+    cond-bound (eqb word 0) 0 _ 2 (omega arith) (cond-bound (eqb word 2) 2 1 2 (omega arith) (omega arith))
 
 bisect-bound : (f : ℕ) (t : List ℕ) (v low high : ℕ) → bisect f t v low high ≤ 2
 unfolding bisect
 bisect-bound zero t v low high = omega arith
 bisect-bound (suc f) t v low high =
-    pick-bound (ltb low high) _ 1 2
-    (pick-bound (ltb v (firstOf t (middle low high))) _ _ 2 (bisect-bound f t v low (middle low high))
-    (pick-bound (ltb (lastOf t (middle low high)) v) _ _ 2 (bisect-bound f t v (middle low high + 1) high) (range-bound t (middle low high))))
+    cond-bound (ltb low high) _ 1 2
+    (cond-bound (ltb v (firstOf t (middle low high))) _ _ 2 (bisect-bound f t v low (middle low high))
+    (cond-bound (ltb (lastOf t (middle low high)) v) _ _ 2 (bisect-bound f t v (middle low high + 1) high) (range-bound t (middle low high))))
     (omega arith)
 
 -- No width is above 2.
@@ -77,7 +77,7 @@ width-held t v k o h p q = bisect-held (rangeCount t) t v 0 (rangeCount t) k o (
 fit-count-le : (t : List ℕ) (room : ℕ) (label : List ℕ) → fitCount t room label ≤ length label
 unfolding fitCount
 fit-count-le t room [] = omega arith
-fit-count-le t room (ch ∷ label) = pick-bound (leb (widthOf t ch) room) _ _ _ (suc-le-suc (fit-count-le t (room - widthOf t ch) label)) zero-le
+fit-count-le t room (ch ∷ label) = cond-bound (leb (widthOf t ch) room) _ _ _ (suc-le-suc (fit-count-le t (room - widthOf t ch) label)) zero-le
 
 fitting-length : (t : List ℕ) (room : ℕ) (label : List ℕ) → length (fitting t room label) ≡ fitCount t room label
 unfolding fitting

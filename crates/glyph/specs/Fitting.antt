@@ -1,10 +1,10 @@
 -- "The fitting part is the longest prefix of at most .. columns, handed back as a part of the lent glyphs."
+use mathlib.Core.Bool.{cond}
 use Prim.Native.Nat.{ℕ, zero, suc, _+_, _-_, _≤_}
 use mathlib.Core.Path.{_≡_}
 use mathlib.Core.List.{List, [], _∷_}
 use lib.ListN.{length, take}
 use lib.Dec.{leb}
-use Rattle.ground.specs.Choice.{pick}
 use Rattle.glyph.specs.Width.{widthOf}
 
 -- the columns that glyphs take
@@ -16,7 +16,7 @@ columns table (ch ∷ label) = widthOf table ch + columns table label
 unfoldable pub fitCount : List ℕ → ℕ → List ℕ → ℕ
 fitCount table room [] = 0
 fitCount table room (ch ∷ label) =
-    pick (leb (widthOf table ch) room) (suc (fitCount table (room - widthOf table ch) label)) 0
+    cond (leb (widthOf table ch) room) (suc (fitCount table (room - widthOf table ch) label)) 0
 
 unfoldable pub fitting : List ℕ → ℕ → List ℕ → List ℕ
 fitting table room label = take (fitCount table room label) label

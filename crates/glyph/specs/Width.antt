@@ -1,10 +1,9 @@
 -- "Width range, 3: first, last, width 0 or 2; all others 1." A table of ranges is a list of words, three for each range.
 use Prim.Native.Nat.{ℕ, zero, suc, _+_, _-_, _*_, _/_, _≤_, _<_}
-use mathlib.Core.Bool.{Bool, true, false}
+use mathlib.Core.Bool.{Bool, true, false, cond}
 use mathlib.Core.List.{List}
 use lib.ListN.{length, getD}
 use lib.Dec.{eqb, ltb}
-use Rattle.ground.specs.Choice.{pick}
 
 abbrev pub rangeCount : List ℕ → ℕ
 rangeCount table = length table / 3
@@ -19,7 +18,7 @@ lastOf table k = getD table (3 * k + 1) 0
 
 -- "width 0 or 2; all others 1"
 abbrev pub asWidth : ℕ → ℕ
-asWidth word = pick (eqb word 0) 0 (pick (eqb word 2) 2 1)
+asWidth word = cond (eqb word 0) 0 (cond (eqb word 2) 2 1)
 
 abbrev pub rangeWidth : List ℕ → ℕ → ℕ
 rangeWidth table k = asWidth (getD table (3 * k + 2) 0)
@@ -36,9 +35,9 @@ middle low high = low + (high - low) / 2
 unfoldable pub bisect : ℕ → List ℕ → ℕ → ℕ → ℕ → ℕ
 bisect zero table value low high = 1
 bisect (suc turns) table value low high =
-    pick (ltb low high)
-    (pick (ltb value (firstOf table (middle low high))) (bisect turns table value low (middle low high))
-    (pick (ltb (lastOf table (middle low high)) value) (bisect turns table value (middle low high + 1) high)
+    cond (ltb low high)
+    (cond (ltb value (firstOf table (middle low high))) (bisect turns table value low (middle low high))
+    (cond (ltb (lastOf table (middle low high)) value) (bisect turns table value (middle low high + 1) high)
     (rangeWidth table (middle low high))))
     1
 

@@ -62,7 +62,7 @@ fn fit_count(label: &[u32], ranges: &[u32], columns: usize) -> usize
     let mut left = columns;
     let mut n: usize = 0;
     while n < label.len() {
-        let width = ground::wide(char_width(ranges, label[n]));
+        let width = ground::number(char_width(ranges, label[n]));
         if left < width {
             return n;
         }

@@ -1,3 +1,2 @@
--- What every layer shares: choosing by a test.
-pub mod Choice
+-- What every layer shares.
 pub mod First

@@ -9,26 +9,26 @@ pub enum Found {
 }
 
 // A 32-bit field as an index: sums of such are made in 64 bits, so that none wraps.
-pub fn wide(x: u32) -> usize
+pub fn number(x: u32) -> usize
     ensures { λ r. ⌜ (r ≡ x) × (r < 4294967296) ⌝ }
 {
     x as usize
 }
 
-pub fn lower(a: usize, b: usize) -> usize
+pub fn min(a: usize, b: usize) -> usize
     ensures { λ r. ⌜ r ≡ min a b ⌝ }
 {
     if a < b { a } else { b }
 }
 
-pub fn upper(a: usize, b: usize) -> usize
+pub fn max(a: usize, b: usize) -> usize
     ensures { λ r. ⌜ r ≡ max a b ⌝ }
 {
     if a < b { b } else { a }
 }
 
 // So much less, and 0 where that is more than there is.
-pub fn below(a: usize, by: usize) -> usize
+pub fn minus(a: usize, by: usize) -> usize
     ensures { λ r. ⌜ r ≡ a - by ⌝ }
 {
     if by <= a { a - by } else { 0 }

@@ -3,11 +3,10 @@ use Prim.Native.Nat.{ℕ, _+_, _*_, _-_, _/_, _%_, _≤_, _<_}
 use native.Mathlib.Nat.{mul-le-mul, mul-le-mul-right, add-mul}
 use native.Mathlib.Omega.{arith}
 use mathlib.Core.Path.{_≡_, refl, ap}
-use mathlib.Core.Bool.{Bool, true, false}
+use mathlib.Core.Bool.{Bool, true, false, _&&_}
 use mathlib.Core.List.{List, []}
 use lib.ListN.{length, take, drop}
 use borrow.Author.Tests.{le-leb, lt-leb}
-use Rattle.ground.specs.Choice.{both}
 use Rattle.cell.specs.declared.Weight.{Weight}
 use Rattle.cell.specs.OneCell.{weightOf}
 use Rattle.image.specs.declared.Table.{Table}
@@ -75,9 +74,9 @@ unfolding spanWords
 span-outside image t span p = simp (lt-leb _ _ p)
 
 -- two tests of which the second fails do not both hold
-both-false : (test : Bool) → both test false ≡ false
-both-false true = refl
-both-false false = refl
+and-false : (test : Bool) → test && false ≡ false
+and-false true = refl
+and-false false = refl
 
 -- a span of a table that leaves the image has no words
 pub table-outside :
@@ -85,7 +84,7 @@ pub table-outside :
     length image < tableEnd t →
     [] ≡ spanWords image t span
 unfolding spanWords
-table-outside image t span p = simp (lt-leb _ _ p, both-false)
+table-outside image t span p = simp (lt-leb _ _ p, and-false)
 
 -- the tables, in the order in which they are read
 pub tables-fields :

@@ -2,12 +2,11 @@
 use Prim.Native.Nat.{ℕ, _+_, _*_, _≤_, _<_}
 use native.Mathlib.Omega.{arith}
 use mathlib.Core.Path.{_≡_}
-use mathlib.Core.Bool.{Bool, true, false}
+use mathlib.Core.Bool.{Bool, true, false, cond, _&&_}
 use mathlib.Core.List.{List, []}
 use lib.ListN.{length, getD, take, drop, length-take, length-drop}
 use lib.Dec.{leb}
 use borrow.Author.Tests.{le-leb}
-use Rattle.ground.specs.Choice.{pick, both}
 use Rattle.image.specs.declared.Table.{Table}
 use Rattle.image.specs.declared.Span.{Span}
 use Rattle.image.specs.SheetImage.{word, tableEnd, recordAt, tablesOf, AllSmall, spanInside, spanWords}
@@ -40,7 +39,7 @@ tables-small image h =
 
 -- what is taken of some words, or nothing, has at most so many
 picked-length :
-    (test : Bool) (n : ℕ) (words : List ℕ) → length (pick test (take n words) []) ≤ n
+    (test : Bool) (n : ℕ) (words : List ℕ) → length (cond test (take n words) []) ≤ n
 picked-length true n words = rw length-take (omega arith)
 picked-length false n words = omega arith
 
@@ -50,7 +49,7 @@ pub span-length :
     length (spanWords image t span) ≤ span .count * t .size
 unfolding spanWords
 span-length image t span =
-    picked-length (both (spanInside t span) (leb (tableEnd t) (length image))) _
+    picked-length (spanInside t span && leb (tableEnd t) (length image)) _
     (drop (recordAt t (span .start)) image)
 
 -- The words of a span inside its table, inside the image, are its count of records.

@@ -1,10 +1,9 @@
 -- "The sheet image": the header, where each table begins, and each record by its fields. Every reading is of any words: a word past the end reads 0.
 use Prim.Native.Nat.{ℕ, _+_, _*_, _/_, _%_, _≤_, _<_}
-use mathlib.Core.Bool.{Bool, true, false}
+use mathlib.Core.Bool.{Bool, true, false, cond, _&&_}
 use mathlib.Core.List.{List, []}
 use lib.ListN.{length, getD, take, drop}
 use lib.Dec.{eqb, leb}
-use Rattle.ground.specs.Choice.{pick, both}
 use Rattle.cell.specs.OneCell.{weightOf}
 use Rattle.image.specs.declared.LabelPolicy.{LabelPolicy}
 use Rattle.image.specs.declared.LabelPolicy.the-variants.{Geometric, AvoidNodeRows}
@@ -41,7 +40,7 @@ abbrev pub flag : ℕ → ℕ → Bool
 flag flags bit = eqb (flags / bit % 2) 1
 
 abbrev pub policyOf : Bool → LabelPolicy
-policyOf avoid = pick avoid AvoidNodeRows Geometric
+policyOf avoid = cond avoid AvoidNodeRows Geometric
 
 -- "Header, 12 words: width, height, run capacity, flags (label policy 1 bit: 0 Geometric, 1 AvoidNodeRows; show dummies 1 bit), then counts"
 unfoldable pub headerOf : List ℕ → Header
@@ -128,7 +127,7 @@ spanInside t span = leb (span .start + span .count) (t .count)
 -- the records of a span, and nothing where the span leaves its table or the table the image
 unfoldable pub spanWords : List ℕ → Table → Span → List ℕ
 spanWords image t span =
-    pick (both (spanInside t span) (leb (tableEnd t) (length image)))
+    cond (spanInside t span && leb (tableEnd t) (length image))
     (take (span .count * t .size) (drop (recordAt t (span .start)) image))
     []
 
@@ -139,11 +138,11 @@ spanFrom image at = record { start = word image at; count = word image (at + 1) 
 -- "node, 9: x, y, width, height, label start, label count, flags (kind 2 bits: 0 simple, 1 boxed, 2 blank, 3 dummy; self-loop 1 bit), loop x, loop y"
 
 abbrev pub nodeKindOf : ℕ → NodeKind
-nodeKindOf n = pick (eqb n 0) Simple (pick (eqb n 1) Boxed (pick (eqb n 2) Blank Dummy))
+nodeKindOf n = cond (eqb n 0) Simple (cond (eqb n 1) Boxed (cond (eqb n 2) Blank Dummy))
 
 -- "loop x, loop y (both 0 without the bit)"
 abbrev pub selfLoopFrom : Bool → ℕ → ℕ → SelfLoop
-selfLoopFrom present x y = pick present (loop.At x y) loop.None
+selfLoopFrom present x y = cond present (loop.At x y) loop.None
 
 unfoldable pub nodeFrom : List ℕ → ℕ → Node
 nodeFrom image at = record {
@@ -160,17 +159,17 @@ nodeFrom image at = record {
 -- that is no path's reads as Direct.
 unfoldable pub pathFrom : ℕ → ℕ → ℕ → ℕ → Path
 pathFrom kind a b c =
-    pick (eqb kind 1) (Corner a)
-    (pick (eqb kind 2) (SideChannel a b c)
-    (pick (eqb kind 3) (MultiSegment (record { start = a; count = b }) c)
-    (pick (eqb kind 4) (Orthogonal (record { start = a; count = b })) (pick (eqb kind 5) Spline Direct))))
+    cond (eqb kind 1) (Corner a)
+    (cond (eqb kind 2) (SideChannel a b c)
+    (cond (eqb kind 3) (MultiSegment (record { start = a; count = b }) c)
+    (cond (eqb kind 4) (Orthogonal (record { start = a; count = b })) (cond (eqb kind 5) Spline Direct))))
 
 -- "label present 1 (else start and count 0)"
 abbrev pub labelFrom : Bool → Span → EdgeLabel
-labelFrom present span = pick present (label.Present span) label.None
+labelFrom present span = cond present (label.Present span) label.None
 
 abbrev pub axisOf : Bool → FlowAxis
-axisOf across = pick across X Y
+axisOf across = cond across X Y
 
 -- "edge, 12: from x, from y, to x, to y, flags, a, b, c, label start, label count, colour, label colour. Flags: path 3 bits, flow axis 1 (0 Y, 1 X),
 -- reversed 1, start marker 1, end marker 1, weight 2 (1 Dashed, 2 Light, 3 Double), label present 1"
@@ -194,7 +193,7 @@ edgeFrom image at = record {
 }
 
 abbrev pub positionOf : Bool → LabelPosition
-positionOf bottom = pick bottom InsideBottom InsideTop
+positionOf bottom = cond bottom InsideBottom InsideTop
 
 -- "subgraph, 8: x, y, width, height, label start, label count, flags (border 2 bits, 0 none, else as edge weight; label position 1 bit, 0 InsideTop,
 -- 1 InsideBottom), colour (0 keeps what is there)"
@@ -223,7 +222,7 @@ placedLabelFrom image at = record {
 -- "element, 4: kind (0 Node, 1 Edge, 2 Subgraph), index, first row, last row"
 
 abbrev pub elementKindOf : ℕ → ElementKind
-elementKindOf n = pick (eqb n 0) kind.Node (pick (eqb n 1) kind.Edge kind.Subgraph)
+elementKindOf n = cond (eqb n 0) kind.Node (cond (eqb n 1) kind.Edge kind.Subgraph)
 
 unfoldable pub elementFrom : List ℕ → ℕ → Element
 elementFrom image at = record {

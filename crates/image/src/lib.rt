@@ -95,7 +95,7 @@ impl Table {
     {
         Table {
             start: self.end(),
-            count: ground::wide(count),
+            count: ground::number(count),
             size: size,
         }
     }
@@ -121,7 +121,7 @@ impl Tables {
     {
         let nodes = Table {
             start: 12,
-            count: ground::wide(word(image, 4)),
+            count: ground::number(word(image, 4)),
             size: 9,
         };
         let edges = nodes.after(word(image, 5), 12);
@@ -155,8 +155,8 @@ pub fn span_part(image: &[u32], table: Table, span: Span) -> &[u32]
     requires { ⌜ Small table ⌝ }
     ensures { λ r. ⌜ now r ≡ spanWords (now (image .entry)) table span ⌝ }
 {
-    let start = ground::wide(span.start);
-    let count = ground::wide(span.count);
+    let start = ground::number(span.start);
+    let count = ground::number(span.count);
     let held = table.count;
     if start + count <= held {
         if table.end() <= image.len() {

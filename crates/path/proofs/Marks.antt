@@ -1,11 +1,11 @@
 -- The two arrows of an Orthogonal path, by a walk along its legs.
+use mathlib.Core.Bool.{cond}
 use native.Mathlib.Omega.{arith}
 use Prim.Native.Nat.{ℕ, zero, suc, _+_, _-_, _<_}
 use mathlib.Core.Path.{_≡_, refl, _∙_, ap}
 use mathlib.Core.List.{List}
 use lib.Dec.{eqb, ltb}
 use borrow.Author.Tests.{eq-eqb, ne-eqb, lt-ltb, le-ltb, le-leb}
-use Rattle.ground.specs.Choice.{pick}
 use Rattle.ground.proofs.Order.{by-order, by-three}
 use Rattle.image.specs.declared.Edge.{Edge}
 use Rattle.image.specs.declared.Point.{Point}
@@ -21,10 +21,10 @@ use Rattle.path.proofs.Walk.{Stands, walk-begins, walk-goes, walk-ends}
 -- an arrow, as the first k legs of the walk leave it
 
 abbrev sourceBy : Edge → List Point → ℕ → EndMark
-sourceBy e path k = pick (eqb k 0) end.None (sourceMark e path)
+sourceBy e path k = cond (eqb k 0) end.None (sourceMark e path)
 
 abbrev targetBy : Edge → List Point → ℕ → EndMark
-targetBy e path k = pick (ltb k (legCount path)) end.None (targetMark e path)
+targetBy e path k = cond (ltb k (legCount path)) end.None (targetMark e path)
 
 -- Tests that come to the same.
 

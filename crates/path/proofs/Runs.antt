@@ -2,12 +2,11 @@
 use native.Mathlib.Omega.{arith}
 use Prim.Native.Nat.{ℕ, zero, suc, _+_, _*_, _/_, _%_, _≤_}
 use mathlib.Core.Path.{_≡_, refl}
-use mathlib.Core.Bool.{Bool, true, false, not}
+use mathlib.Core.Bool.{Bool, true, false, not, cond}
 use mathlib.Core.List.{List}
 use lib.Dec.{eqb, ltb}
 use borrow.Author.Tests.{ne-eqb}
-use Rattle.ground.specs.Choice.{pick}
-use Rattle.ground.proofs.Order.{by-three, pick-bound}
+use Rattle.ground.proofs.Order.{by-three, cond-bound}
 use Rattle.cell.specs.declared.Weight.{Weight}
 use Rattle.image.specs.declared.Edge.{Edge}
 use Rattle.image.specs.declared.Span.{Span}
@@ -34,7 +33,7 @@ unfolding pieceRuns
 piece-one height Nothing = omega arith
 piece-one height (Vertical l) = omega arith
 piece-one height (Horizontal l) = omega arith
-piece-one height (Run row first last) = pick-bound (ltb row height) 1 0 1 (omega arith) (omega arith)
+piece-one height (Run row first last) = cond-bound (ltb row height) 1 0 1 (omega arith) (omega arith)
 piece-one height (Stroke x y arms) = omega arith
 piece-one height (Mark x y dir) = omega arith
 
@@ -44,7 +43,7 @@ module _ (height : ℕ) where
   NoRun p = pieceRuns height p ≡ 0
 
   -- of two pieces that make none, neither does the one chosen
-  pick-none : (t : Bool) (p q : Piece) → NoRun p → NoRun q → NoRun (pick t p q)
+  pick-none : (t : Bool) (p q : Piece) → NoRun p → NoRun q → NoRun (cond t p q)
   pick-none true p q a b = a
   pick-none false p q a b = b
 

@@ -1,16 +1,15 @@
 -- What holds of the rows that an edge touches: they are those of its pieces, from the first to the last.
 use native.Mathlib.Omega.{arith}
 use Prim.Native.Nat.{ℕ, zero, suc, _+_, _≤_, _<_}
-use mathlib.Core.Bool.{Bool, true, false}
+use mathlib.Core.Bool.{Bool, true, false, _&&_}
 use mathlib.Core.Logic.{_↔_}
 use mathlib.Core.Path.{_≡_, refl, sym, _∙_}
 use mathlib.Core.List.{List}
-use Rattle.ground.specs.Choice.{pick, both}
 use Rattle.ground.proofs.Order.{by-three}
 use Rattle.rows.specs.declared.Rows.{Rows}
 use Rattle.rows.specs.declared.Rows.the-variants as rows
 use Rattle.rows.specs.SheetRows.{sheetRows, joinRows, rowsWithin, Whole}
-use Rattle.rows.proofs.Theorems.{sheet-rows-whole, join-whole, join-within, pick-whole}
+use Rattle.rows.proofs.Theorems.{sheet-rows-whole, join-whole, join-within, cond-whole}
 use Rattle.image.specs.declared.Edge.{Edge}
 use Rattle.path.specs.declared.Piece.{Piece}
 use Rattle.path.specs.declared.Piece.the-variants.{Nothing, Vertical, Horizontal, Run, Stroke, Mark}
@@ -19,13 +18,13 @@ use Rattle.path.specs.Rows.{hasInside, pieceRows, reachFrom, edgeReach}
 
 -- two tests that both hold
 
-both-first : (a b : Bool) → both a b ≡ true → a ≡ true
-both-first true b e = refl
-both-first false b e = e
+and-first : (a b : Bool) → a && b ≡ true → a ≡ true
+and-first true b e = refl
+and-first false b e = e
 
-both-second : (a b : Bool) → both a b ≡ true → b ≡ true
-both-second true b e = e
-both-second false b e = cc
+and-second : (a b : Bool) → a && b ≡ true → b ≡ true
+and-second true b e = e
+and-second false b e = cc
 
 -- rows that together are none
 
@@ -45,7 +44,7 @@ unfolding pieceRows
 piece-whole height Nothing = tt
 piece-whole height (Vertical l) = sheet-rows-whole _ _ _
 piece-whole height (Horizontal l) =
-    pick-whole (hasInside (l .a) (l .b)) (sheetRows height (l .at) (l .at)) (sheet-rows-whole _ _ _)
+    cond-whole (hasInside (l .a) (l .b)) (sheetRows height (l .at) (l .at)) (sheet-rows-whole _ _ _)
 piece-whole height (Run row first last) = sheet-rows-whole _ _ _
 piece-whole height (Stroke x y arms) = sheet-rows-whole _ _ _
 piece-whole height (Mark x y dir) = sheet-rows-whole _ _ _
@@ -99,9 +98,9 @@ module _ (height : ℕ) (piece : ℕ → Piece) where
         let s = reachFrom height piece (suc k) left .rows in
         let j = sym (join-within lo hi r s) ∙ e in
         by-three k i
-        (λ p. from-within left (suc k) (both-second (rowsWithin lo hi r) (rowsWithin lo hi s) j) i (omega arith) (omega arith))
+        (λ p. from-within left (suc k) (and-second (rowsWithin lo hi r) (rowsWithin lo hi s) j) i (omega arith) (omega arith))
         (λ p. absurd (omega arith))
-        (λ p. rw (sym p) (both-first (rowsWithin lo hi r) (rowsWithin lo hi s) j))
+        (λ p. rw (sym p) (and-first (rowsWithin lo hi r) (rowsWithin lo hi s) j))
 
     within-from :
         (left k : ℕ) →

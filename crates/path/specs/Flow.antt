@@ -1,9 +1,8 @@
 -- What both flows share: the flow's sign, a place so many cells along it, the arrows on a line, and the arms of a stroke. `s` is true for +1.
 use Prim.Native.Nat.{ℕ, _+_, _-_}
-use mathlib.Core.Bool.{Bool, true, false, not}
+use mathlib.Core.Bool.{Bool, true, false, not, cond, _&&_}
 use lib.Dec.{leb, ltb}
 use lib.IntN.{ℤ, pos, negsuc}
-use Rattle.ground.specs.Choice.{pick, both}
 use Rattle.cell.specs.declared.Weight.{Weight}
 use Rattle.cell.specs.declared.Weight.the-variants as weight
 use Rattle.cell.specs.declared.Arms.{Arms}
@@ -29,19 +28,19 @@ placeOf (negsuc n) = place.Below
 -- from + s·steps, or that it lies below 0
 unfoldable pub along : Bool → ℕ → ℕ → Place
 along s from steps =
-    pick s (place.At (from + steps)) (pick (leb steps from) (place.At (from - steps)) place.Below)
+    cond s (place.At (from + steps)) (cond (leb steps from) (place.At (from - steps)) place.Below)
 
 -- "Reversed swaps start and end markers"
 
 abbrev pub sourceMarker : Edge → Bool
-sourceMarker e = pick (e .reversed) (e .«end_marker») (e .«start_marker»)
+sourceMarker e = cond (e .reversed) (e .«end_marker») (e .«start_marker»)
 
 abbrev pub targetMarker : Edge → Bool
-targetMarker e = pick (e .reversed) (e .«start_marker») (e .«end_marker»)
+targetMarker e = cond (e .reversed) (e .«start_marker») (e .«end_marker»)
 
 -- an arrow at a place, where one is wanted: "A row of −1 matches no cell."
 unfoldable pub headAt : Bool → Place → Dir → Head
-headAt wanted (place.At n) dir = pick wanted (head.At n dir) head.None
+headAt wanted (place.At n) dir = cond wanted (head.At n dir) head.None
 headAt wanted place.Below dir = head.None
 
 -- "a start arrow points −s at from y + s": the direction is the flow's to say
@@ -58,7 +57,7 @@ lineOf at a b one two = record { at = at; a = a; b = b; one = one; two = two }
 
 -- an arm, where it is wanted
 abbrev pub armIf : Bool → Weight → Weight
-armIf wanted w = pick wanted w weight.None
+armIf wanted w = cond wanted w weight.None
 
 -- an arm down (else up) and an arm right (else left)
 abbrev pub corner : Weight → Bool → Bool → Arms
@@ -88,10 +87,10 @@ cornerBend e at = record {
 -- leg strokes .. its own start."
 unfoldable pub legBend : Edge → ℕ → Leg → ℕ → Bend
 legBend e offset leg at = record {
-  trunk = both (leg .first) (ltb 0 offset);
+  trunk = leg .first && ltb 0 offset;
   own = not (leg .first);
-  start = both (leg .first) (sourceMarker e);
-  end = both (leg .last) (targetMarker e);
+  start = leg .first && sourceMarker e;
+  end = leg .last && targetMarker e;
   at = at;
   x1 = leg .x1;
   y1 = leg .y1;
@@ -101,4 +100,4 @@ legBend e offset leg at = record {
 
 -- how far along the flow a leg's corner lies: "1 + offset on the first leg, 0 later"
 abbrev pub cornerSteps : ℕ → Leg → ℕ
-cornerSteps offset leg = pick (leg .first) (1 + offset) 1
+cornerSteps offset leg = cond (leg .first) (1 + offset) 1

@@ -2,11 +2,10 @@
 -- of length ≥ 2, else the neighbouring bend, else none; target wins; drawn wherever the path passes that cell. Other bends get arms toward both
 -- neighbours, x compared first."
 use Prim.Native.Nat.{ℕ, zero, suc, _+_, _-_, _*_, _/_, _%_, min, max}
-use mathlib.Core.Bool.{Bool, true, false, not}
+use mathlib.Core.Bool.{Bool, true, false, not, cond, _&&_, _||_}
 use mathlib.Core.List.{List, [], _∷_}
 use lib.ListN.{length, getD}
 use lib.Dec.{leb, ltb, eqb}
-use Rattle.ground.specs.Choice.{pick, both, either}
 use Rattle.cell.specs.declared.Weight.{Weight}
 use Rattle.cell.specs.declared.Weight.the-variants as weight
 use Rattle.cell.specs.declared.Arms.{Arms}
@@ -40,16 +39,16 @@ pointAt points k = record { x = getD points (2 * k) 0; y = getD points (2 * k + 
 
 unfoldable pub pathPoint : Edge → List ℕ → ℕ → Point
 pathPoint e points k =
-    pick (eqb k 0) (source e) (pick (leb k (pointCount points)) (pointAt points (k - 1)) (target e))
+    cond (eqb k 0) (source e) (cond (leb k (pointCount points)) (pointAt points (k - 1)) (target e))
 
 abbrev pub samePoint : Point → Point → Bool
-samePoint a b = both (eqb (a .x) (b .x)) (eqb (a .y) (b .y))
+samePoint a b = eqb (a .x) (b .x) && eqb (a .y) (b .y)
 
 -- "skip repeated points": from point k on, so many are left, the last stop being a
 unfoldable pub stopsAfter : Edge → List ℕ → Point → ℕ → ℕ → List Point
 stopsAfter e points a k zero = []
 stopsAfter e points a k (suc left) =
-    pick (samePoint a (pathPoint e points k)) (stopsAfter e points a (suc k) left)
+    cond (samePoint a (pathPoint e points k)) (stopsAfter e points a (suc k) left)
     (pathPoint e points k ∷ stopsAfter e points (pathPoint e points k) (suc k) left)
 
 -- the stops of the path; a leg goes from a stop to the next
@@ -64,10 +63,10 @@ legCount path = length path - 1
 
 -- from a cell toward another: "x compared first"
 abbrev pub toward : Point → Point → Dir
-toward a t = pick (ltb (t .x) (a .x)) Left (pick (ltb (a .x) (t .x)) Right (pick (ltb (t .y) (a .y)) Up Down))
+toward a t = cond (ltb (t .x) (a .x)) Left (cond (ltb (a .x) (t .x)) Right (cond (ltb (t .y) (a .y)) Up Down))
 
 abbrev pub straight : Point → Point → Bool
-straight a b = either (eqb (a .x) (b .x)) (eqb (a .y) (b .y))
+straight a b = eqb (a .x) (b .x) || eqb (a .y) (b .y)
 
 abbrev pub apart : ℕ → ℕ → ℕ
 apart u v = max u v - min u v
@@ -78,12 +77,12 @@ long a b = leb 2 (apart (a .x) (b .x) + apart (a .y) (b .y))
 
 -- one cell from a number toward another
 abbrev pub nearer : ℕ → ℕ → ℕ
-nearer u v = pick (ltb u v) (u + 1) (u - 1)
+nearer u v = cond (ltb u v) (u + 1) (u - 1)
 
 -- one cell from a toward b, on a straight leg
 abbrev pub inside : Point → Point → Point
 inside a b =
-    pick (eqb (a .x) (b .x)) (record { x = a .x; y = nearer (a .y) (b .y) })
+    cond (eqb (a .x) (b .x)) (record { x = a .x; y = nearer (a .y) (b .y) })
     (record { x = nearer (a .x) (b .x); y = a .y })
 
 abbrev pub markFacing : Point → Point → EndMark
@@ -92,8 +91,8 @@ markFacing at t = end.At (at .x) (at .y) (toward at t)
 -- the marker of one end, on the leg from that end to its neighbour: "one cell inside a leg of length ≥ 2, else the neighbouring bend, else none"
 unfoldable pub endMark : Bool → Bool → Point → Point → EndMark
 endMark wanted only at next =
-    pick (both wanted (straight at next))
-    (pick (long at next) (markFacing (inside at next) at) (pick only end.None (markFacing next at)))
+    cond (wanted && straight at next)
+    (cond (long at next) (markFacing (inside at next) at) (cond only end.None (markFacing next at)))
     end.None
 
 abbrev pub onlyLeg : List Point → Bool
@@ -101,11 +100,11 @@ onlyLeg path = eqb (legCount path) 1
 
 unfoldable pub sourceMark : Edge → List Point → EndMark
 sourceMark e path =
-    pick (leb 1 (legCount path)) (endMark (sourceMarker e) (onlyLeg path) (stopAt path 0) (stopAt path 1)) end.None
+    cond (leb 1 (legCount path)) (endMark (sourceMarker e) (onlyLeg path) (stopAt path 0) (stopAt path 1)) end.None
 
 unfoldable pub targetMark : Edge → List Point → EndMark
 targetMark e path =
-    pick (leb 1 (legCount path))
+    cond (leb 1 (legCount path))
     (endMark (targetMarker e) (onlyLeg path) (stopAt path (legCount path)) (stopAt path (legCount path - 1)))
     end.None
 
@@ -113,18 +112,18 @@ targetMark e path =
 
 abbrev pub headOnColumn : EndMark → ℕ → Head
 headOnColumn end.None column = head.None
-headOnColumn (end.At x y dir) column = pick (eqb x column) (head.At y dir) head.None
+headOnColumn (end.At x y dir) column = cond (eqb x column) (head.At y dir) head.None
 
 abbrev pub headOnRow : EndMark → ℕ → Head
 headOnRow end.None row = head.None
-headOnRow (end.At x y dir) row = pick (eqb y row) (head.At x dir) head.None
+headOnRow (end.At x y dir) row = cond (eqb y row) (head.At x dir) head.None
 
 -- the interior of a leg from a to b, with the target's marker before the source's: "target wins"
 unfoldable pub legLine : EndMark → EndMark → Point → Point → Piece
 legLine first second a b =
-    pick (eqb (a .x) (b .x))
+    cond (eqb (a .x) (b .x))
     (Vertical (lineOf (a .x) (a .y) (b .y) (headOnColumn first (a .x)) (headOnColumn second (a .x))))
-    (pick (eqb (a .y) (b .y))
+    (cond (eqb (a .y) (b .y))
     (Horizontal (lineOf (a .y) (a .x) (b .x) (headOnRow first (a .y)) (headOnRow second (a .y))))
     Nothing)
 
@@ -141,7 +140,7 @@ bendArms w a before next = heavierArms (onlyArm w (toward a before)) (onlyArm w 
 -- the marker at this point, or else what is drawn there
 abbrev pub markOr : EndMark → Point → Piece → Piece
 markOr end.None a other = other
-markOr (end.At x y dir) a other = pick (both (eqb x (a .x)) (eqb y (a .y))) (Mark (a .x) (a .y) dir) other
+markOr (end.At x y dir) a other = cond (eqb x (a .x) && eqb y (a .y)) (Mark (a .x) (a .y) dir) other
 
 -- the bend at a stop
 unfoldable pub bendPiece : Weight → EndMark → EndMark → Point → Point → Point → Piece
@@ -161,8 +160,8 @@ pathLeg path k = record {
 -- a leg's two pieces: the bend at its start (none at the source), then its interior
 unfoldable pub legSlot : Weight → EndMark → EndMark → PathLeg → ℕ → Piece
 legSlot w target source leg slot =
-    pick (eqb slot 0)
-    (pick (leg .first) Nothing (bendPiece w target source (leg .a) (leg .before) (leg .b)))
+    cond (eqb slot 0)
+    (cond (leg .first) Nothing (bendPiece w target source (leg .a) (leg .before) (leg .b)))
     (legLine target source (leg .a) (leg .b))
 
 unfoldable pub orthogonalPiece : Edge → List Point → ℕ → Piece

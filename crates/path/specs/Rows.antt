@@ -1,9 +1,8 @@
 -- "An element touches a row when it makes a stroke, marker, run or glyph .. there, columns disregarded." "The run count is the number of runs on rows of
 -- the sheet."
 use Prim.Native.Nat.{ℕ, zero, suc, _+_, _-_, min, max}
-use mathlib.Core.Bool.{Bool, true, false}
+use mathlib.Core.Bool.{Bool, true, false, cond}
 use lib.Dec.{ltb}
-use Rattle.ground.specs.Choice.{pick}
 use Rattle.path.specs.declared.Line.{Line}
 use mathlib.Core.List.{List}
 use Rattle.image.specs.declared.Edge.{Edge}
@@ -23,7 +22,7 @@ hasInside a b = ltb (min a b + 1) (max a b)
 unfoldable pub pieceRows : ℕ → Piece → Rows
 pieceRows height Nothing = rows.None
 pieceRows height (Vertical l) = sheetRows height (min (l .a) (l .b) + 1) (max (l .a) (l .b) - 1)
-pieceRows height (Horizontal l) = pick (hasInside (l .a) (l .b)) (sheetRows height (l .at) (l .at)) rows.None
+pieceRows height (Horizontal l) = cond (hasInside (l .a) (l .b)) (sheetRows height (l .at) (l .at)) rows.None
 pieceRows height (Run row first last) = sheetRows height row row
 pieceRows height (Stroke x y arms) = sheetRows height y y
 pieceRows height (Mark x y dir) = sheetRows height y y
@@ -33,7 +32,7 @@ unfoldable pub pieceRuns : ℕ → Piece → ℕ
 pieceRuns height Nothing = 0
 pieceRuns height (Vertical l) = 0
 pieceRuns height (Horizontal l) = 0
-pieceRuns height (Run row first last) = pick (ltb row height) 1 0
+pieceRuns height (Run row first last) = cond (ltb row height) 1 0
 pieceRuns height (Stroke x y arms) = 0
 pieceRuns height (Mark x y dir) = 0
 

@@ -1,10 +1,9 @@
 -- The walk along an Orthogonal path: a cursor that looks one stop ahead, so that each point is read once. What it hands back is the legs between the
 -- path's stops (`leg-of-walk` of the proofs).
 use Prim.Native.Nat.{ℕ, zero, suc, _+_, _-_}
-use mathlib.Core.Bool.{Bool, true, false}
+use mathlib.Core.Bool.{Bool, true, false, cond}
 use mathlib.Core.List.{List, [], _∷_}
 use lib.ListN.{length}
-use Rattle.ground.specs.Choice.{pick}
 use Rattle.image.specs.declared.Edge.{Edge}
 use Rattle.image.specs.declared.Point.{Point}
 use Rattle.path.specs.declared.Stop.{Stop}
@@ -25,7 +24,7 @@ pointsLeft points k = pointCount points + 2 - k
 unfoldable pub stopFrom : Edge → List ℕ → Point → ℕ → ℕ → Stop
 stopFrom e points a k zero = stop.End
 stopFrom e points a k (suc left) =
-    pick (samePoint a (pathPoint e points k)) (stopFrom e points a (suc k) left)
+    cond (samePoint a (pathPoint e points k)) (stopFrom e points a (suc k) left)
     (stop.At (pathPoint e points k) (suc k))
 
 unfoldable pub nextStop : Edge → List ℕ → Point → ℕ → Stop
@@ -80,7 +79,7 @@ legsLeft e points c = length (stopsAhead e points (c .ahead))
 -- what a leg of the walk makes of the two arrows: the first leg decides the source's, the last the target's
 
 abbrev pub sourceAfter : Edge → PathLeg → EndMark → EndMark
-sourceAfter e leg mark = pick (leg .first) (endMark (sourceMarker e) (leg .last) (leg .a) (leg .b)) mark
+sourceAfter e leg mark = cond (leg .first) (endMark (sourceMarker e) (leg .last) (leg .a) (leg .b)) mark
 
 abbrev pub targetAfter : Edge → PathLeg → EndMark → EndMark
-targetAfter e leg mark = pick (leg .last) (endMark (targetMarker e) (leg .first) (leg .b) (leg .a)) mark
+targetAfter e leg mark = cond (leg .last) (endMark (targetMarker e) (leg .first) (leg .b) (leg .a)) mark

@@ -5,7 +5,7 @@ ghost use Prim.Native.Nat.{_+_, _≤_, _<_};
 ghost use Rattle.path.specs.Flow.{flowSign, placeOf, along, sourceMarker, targetMarker, headAt, startHead, endHead, lineOf};
 ghost use Rattle.path.specs.Flow.{armIf, corner, cornerBend, legBend, cornerSteps};
 ghost use Rattle.path.specs.Bounds.{bound, SmallBend, SmallLeg, SmallPlace};
-ghost use Rattle.ground.specs.Choice.{both};
+ghost use mathlib.Core.Bool.{_&&_};
 use cell::Arms;
 use cell::Dir;
 use cell::Weight;
@@ -237,7 +237,7 @@ pub fn corner(w: Weight, down: bool, right: bool) -> Arms
 }
 
 fn both(a: bool, b: bool) -> bool
-    ensures { λ r. ⌜ r ≡ both a b ⌝ }
+    ensures { λ r. ⌜ r ≡ a && b ⌝ }
 {
     if a { b } else { false }
 }
@@ -251,11 +251,11 @@ fn corner_bend(e: Edge, bend: u32) -> Bend
         own: false,
         start: source_marker(e),
         end: target_marker(e),
-        at: ground::wide(bend),
-        x1: ground::wide(e.from_x),
-        y1: ground::wide(e.from_y),
-        x2: ground::wide(e.to_x),
-        y2: ground::wide(e.to_y),
+        at: ground::number(bend),
+        x1: ground::number(e.from_x),
+        y1: ground::number(e.from_y),
+        x2: ground::number(e.to_x),
+        y2: ground::number(e.to_y),
     }
 }
 
@@ -282,7 +282,7 @@ fn corner_steps(offset: u32, leg: Leg) -> usize
     ensures { λ r. ⌜ (r ≡ cornerSteps offset leg) × (r ≤ 0x100000000) ⌝ }
 {
     if leg.first {
-        1 + ground::wide(offset)
+        1 + ground::number(offset)
     } else {
         1
     }

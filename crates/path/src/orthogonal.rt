@@ -166,7 +166,7 @@ fn is_straight(a: Point, b: Point) -> bool
 fn apart(u: u32, v: u32) -> usize
     ensures { λ r. ⌜ (r ≡ apart u v) × (r < 4294967296) ⌝ }
 {
-    ground::wide(if u < v { v - u } else { u - v })
+    ground::number(if u < v { v - u } else { u - v })
 }
 
 // "a leg of length ≥ 2"
@@ -207,8 +207,8 @@ fn mark_facing(at: Point, t: Point) -> EndMark
     ensures { λ r. ⌜ r ≡ markFacing at t ⌝ }
 {
     EndMark::At {
-        x: ground::wide(at.x),
-        y: ground::wide(at.y),
+        x: ground::number(at.x),
+        y: ground::number(at.y),
         dir: toward(at, t),
     }
 }
@@ -306,22 +306,22 @@ fn leg_line(target: EndMark, source: EndMark, a: Point, b: Point) -> Piece
     ensures { λ r. ⌜ r ≡ legLine target source a b ⌝ }
 {
     if a.x == b.x {
-        let x = ground::wide(a.x);
+        let x = ground::number(a.x);
         let line = crate::line_of(
             x,
-            ground::wide(a.y),
-            ground::wide(b.y),
+            ground::number(a.y),
+            ground::number(b.y),
             head_on_column(target, x),
             head_on_column(source, x),
         );
         return Piece::Vertical(line);
     }
     if a.y == b.y {
-        let y = ground::wide(a.y);
+        let y = ground::number(a.y);
         let line = crate::line_of(
             y,
-            ground::wide(a.x),
-            ground::wide(b.x),
+            ground::number(a.x),
+            ground::number(b.x),
             head_on_row(target, y),
             head_on_row(source, y),
         );
@@ -377,8 +377,8 @@ fn mark_or(mark: EndMark, a: Point, other: Piece) -> Piece
     let EndMark::At { x, y, dir } = mark else {
         return other;
     };
-    if x == ground::wide(a.x) {
-        if y == ground::wide(a.y) {
+    if x == ground::number(a.x) {
+        if y == ground::number(a.y) {
             return Piece::Mark {
                 x: x,
                 y: y,
@@ -396,8 +396,8 @@ fn bend_piece(w: Weight, target: EndMark, source: EndMark, leg: PathLeg) -> Piec
     let before = leg.before;
     let b = leg.b;
     let bend = Piece::Stroke {
-        x: ground::wide(a.x),
-        y: ground::wide(a.y),
+        x: ground::number(a.x),
+        y: ground::number(a.y),
         arms: bend_arms(w, a, before, b),
     };
     mark_or(target, a, mark_or(source, a, bend))

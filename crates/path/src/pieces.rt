@@ -24,10 +24,10 @@ pub fn leg_at(e: Edge, points: &[u32], k: usize) -> Leg
     let b = orthogonal::path_point(e, points, k + 1);
     let last = orthogonal::point_count(points);
     Leg {
-        x1: ground::wide(a.x),
-        y1: ground::wide(a.y),
-        x2: ground::wide(b.x),
-        y2: ground::wide(b.y),
+        x1: ground::number(a.x),
+        y1: ground::number(a.y),
+        x2: ground::number(b.x),
+        y2: ground::number(b.y),
         first: k == 0,
         last: k == last,
     }

@@ -23,8 +23,8 @@ use rows::Rows;
 fn vertical_rows(height: usize, line: Line) -> Rows
     ensures { λ r. ⌜ r ≡ pieceRows height (Piece.Vertical line) ⌝ }
 {
-    let low = ground::lower(line.a, line.b);
-    let high = ground::upper(line.a, line.b);
+    let low = ground::min(line.a, line.b);
+    let high = ground::max(line.a, line.b);
     if high - low < 2 {
         return Rows::None;
     }
@@ -35,8 +35,8 @@ fn vertical_rows(height: usize, line: Line) -> Rows
 fn horizontal_rows(height: usize, line: Line) -> Rows
     ensures { λ r. ⌜ r ≡ pieceRows height (Piece.Horizontal line) ⌝ }
 {
-    let low = ground::lower(line.a, line.b);
-    let high = ground::upper(line.a, line.b);
+    let low = ground::min(line.a, line.b);
+    let high = ground::max(line.a, line.b);
     if high - low < 2 {
         return Rows::None;
     }

@@ -38,9 +38,9 @@ pub fn direct(e: Edge) -> Piece
     ensures { λ r. ⌜ r ≡ directX e ⌝ }
 {
     let s = sign(e);
-    let y = ground::wide(e.from_y);
-    let from = ground::wide(e.from_x);
-    let to = ground::wide(e.to_x);
+    let y = ground::number(e.from_y);
+    let from = ground::number(e.from_x);
+    let to = ground::number(e.to_x);
     let one = crate::end_head(crate::target_marker(e), s, to, with_flow(s));
     let two = crate::start_head(crate::source_marker(e), s, from, against_flow(s));
     Piece::Horizontal(crate::line_of(y, from, to, one, two))
@@ -168,11 +168,11 @@ pub fn side(e: Edge, channel: u32, start: u32, end: u32, slot: usize) -> Piece
 {
     let w = e.weight;
     let s = sign(e);
-    let from = ground::wide(e.from_y);
-    let to = ground::wide(e.to_y);
-    let row = ground::wide(channel);
-    let first = ground::wide(start);
-    let last = ground::wide(end);
+    let from = ground::number(e.from_y);
+    let to = ground::number(e.to_y);
+    let row = ground::number(channel);
+    let first = ground::number(start);
+    let last = ground::number(end);
     match slot {
         0 => trunk(s, crate::corner_bend(e, start)),
         1 => cross_line(first, from, row),
@@ -189,7 +189,7 @@ pub fn side(e: Edge, channel: u32, start: u32, end: u32, slot: usize) -> Piece
         5 => cross_line(last, row, to),
         6 => cross_first(w, s, false, last, row, to),
         7 => cross_last(w, s, last, row, to),
-        _ => tail(s, crate::target_marker(e), to, last, ground::wide(e.to_x)),
+        _ => tail(s, crate::target_marker(e), to, last, ground::number(e.to_x)),
     }
 }
 

@@ -37,9 +37,9 @@ pub fn direct(e: Edge) -> Piece
     ensures { λ r. ⌜ r ≡ directY e ⌝ }
 {
     let s = sign(e);
-    let x = ground::wide(e.from_x);
-    let from = ground::wide(e.from_y);
-    let to = ground::wide(e.to_y);
+    let x = ground::number(e.from_x);
+    let from = ground::number(e.from_y);
+    let to = ground::number(e.to_y);
     let one = crate::end_head(crate::target_marker(e), s, to, with_flow(s));
     let two = crate::start_head(crate::source_marker(e), s, from, against_flow(s));
     Piece::Vertical(crate::line_of(x, from, to, one, two))
@@ -50,8 +50,8 @@ fn cross_run(row: usize, x1: usize, x2: usize) -> Piece
     requires { ⌜ (x1 < 0x1000000000000) × (x2 < 0x1000000000000) ⌝ }
     ensures { λ r. ⌜ r ≡ crossRunY row x1 x2 ⌝ }
 {
-    let first = ground::lower(x1, x2) + 1;
-    let end = ground::upper(x1, x2);
+    let first = ground::min(x1, x2) + 1;
+    let end = ground::max(x1, x2);
     if first < end {
         Piece::Run {
             row: row,
@@ -180,11 +180,11 @@ pub fn side(e: Edge, channel: u32, start: u32, end: u32, slot: usize) -> Piece
 {
     let w = e.weight;
     let s = sign(e);
-    let from = ground::wide(e.from_x);
-    let to = ground::wide(e.to_x);
-    let column = ground::wide(channel);
-    let first = ground::wide(start);
-    let last = ground::wide(end);
+    let from = ground::number(e.from_x);
+    let to = ground::number(e.to_x);
+    let column = ground::number(channel);
+    let first = ground::number(start);
+    let last = ground::number(end);
     match slot {
         0 => cross_run(first, from, column),
         1 => cross_first(w, s, false, first, from, column),
@@ -193,7 +193,7 @@ pub fn side(e: Edge, channel: u32, start: u32, end: u32, slot: usize) -> Piece
         4 => cross_run(last, column, to),
         5 => cross_first(w, s, false, last, column, to),
         6 => cross_last(w, s, last, column, to),
-        _ => tail(s, crate::target_marker(e), to, last, ground::wide(e.to_y)),
+        _ => tail(s, crate::target_marker(e), to, last, ground::number(e.to_y)),
     }
 }
 

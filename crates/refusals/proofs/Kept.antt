@@ -1,13 +1,12 @@
 -- Each rule by itself: it finds nothing exactly where the image keeps it.
 use native.Mathlib.Omega.{arith}
 use Prim.Native.Nat.{ℕ, zero, suc, _+_, _-_, _≤_, _<_}
-use mathlib.Core.Bool.{Bool, true, false, not}
+use mathlib.Core.Bool.{Bool, true, false, not, _&&_, _||_}
 use mathlib.Core.List.{List}
 use mathlib.Core.Logic.{_↔_, _⊎_, inl, inr}
 use mathlib.Core.Path.{_≡_, refl, sym, _∙_}
 use lib.Dec.{eqb, ltb, leb}
 use borrow.Author.Tests.{ltb-false, leb-false, eqb-true, not-false, lt-ltb, le-ltb, lt-leb, eq-eqb}
-use Rattle.ground.specs.Choice.{pick, both, either}
 use Rattle.ground.specs.First.{orElse, foundIf, firstFrom}
 use Rattle.ground.specs.declared.Found.{Found}
 use Rattle.ground.specs.declared.Found.the-variants as found
@@ -16,7 +15,7 @@ use Rattle.ground.proofs.First.{first-none, none-first, or-none-both}
 use Rattle.rows.specs.declared.Rows.{Rows}
 use Rattle.rows.specs.declared.Rows.the-variants as rows
 use Rattle.rows.specs.SheetRows.{sheetRows, joinRows, rowsWithin, InRows, Whole}
-use Rattle.rows.proofs.Theorems.{sheet-rows-whole, join-within, within-in, in-within, pick-whole}
+use Rattle.rows.proofs.Theorems.{sheet-rows-whole, join-within, within-in, in-within, cond-whole}
 use Rattle.image.specs.declared.ElementKind.{ElementKind}
 use Rattle.image.specs.declared.ElementKind.the-variants as kind
 use Rattle.image.specs.declared.Tables.{Tables}
@@ -66,7 +65,7 @@ none-iff test place n = (
 )
 
 -- Of two tests neither holds exactly where the one does not and the other does not.
-neither-iff : (a b : Bool) → (either a b ≡ false) ↔ ((a ≡ false) × (b ≡ false))
+neither-iff : (a b : Bool) → (a || b ≡ false) ↔ ((a ≡ false) × (b ≡ false))
 neither-iff true b = (λ h. absurd (let z : _≡_ {A = ℕ} 0 1 = cc in omega arith), λ h. h .0)
 neither-iff false b = (λ h. (refl, h), λ h. h .1)
 
@@ -92,7 +91,7 @@ room-iff room count place = (
 
 -- Code 5: a range does not break the rule exactly where it keeps each part of it.
 
-above-iff : (k first before : ℕ) → (both (ltb 0 k) (leb first before) ≡ false) ↔ (0 < k → before < first)
+above-iff : (k first before : ℕ) → (ltb 0 k && leb first before ≡ false) ↔ (0 < k → before < first)
 above-iff k first before = (
   λ h p. leb-false first before (rw (lt-ltb 0 k p) at h),
   λ h. by-order 0 k (λ p. rw (lt-ltb 0 k p) (lt-leb first before (h p))) (λ p. rw (le-ltb 0 k p)),
@@ -100,11 +99,11 @@ above-iff k first before = (
 
 unbroken-iff :
     (first last before k : ℕ) (fixed : Bool) →
-    (either (ltb last first) (either (both (ltb 0 k) (leb first before)) fixed) ≡ false)
+    (ltb last first || ((ltb 0 k && leb first before) || fixed) ≡ false)
     ↔ ((first ≤ last) × (0 < k → before < first) × (fixed ≡ false))
 unbroken-iff first last before k fixed =
-    let own = neither-iff (ltb last first) (either (both (ltb 0 k) (leb first before)) fixed) in
-    let rest = neither-iff (both (ltb 0 k) (leb first before)) fixed in
+    let own = neither-iff (ltb last first) ((ltb 0 k && leb first before) || fixed) in
+    let rest = neither-iff (ltb 0 k && leb first before) fixed in
     let above = above-iff k first before in (
       (λ h. let no = rest .0 (own .0 h .1) in (ltb-false last first (own .0 h .0), above .0 (no .0), no .1)),
       (λ h. own .1 (le-ltb last first (h .0), rest .1 (above .1 (h .1), h .2))),
@@ -206,22 +205,22 @@ corners-iff image ts =
 
 -- where both tests hold, the first does, and the second does
 
-both-first : (a b : Bool) → both a b ≡ true → a ≡ true
-both-first true b e = refl
-both-first false b e = e
+and-first : (a b : Bool) → a && b ≡ true → a ≡ true
+and-first true b e = refl
+and-first false b e = e
 
-both-second : (a b : Bool) → both a b ≡ true → b ≡ true
-both-second true b e = e
-both-second false b e = cc
+and-second : (a b : Bool) → a && b ≡ true → b ≡ true
+and-second true b e = e
+and-second false b e = cc
 
 -- the rows of two together lie from low to high exactly where each row of either is from low to high
 
 module _ (lo hi : ℕ) (r s : Rows) (v : Whole r) (w : Whole s) where
   joined-in : rowsWithin lo hi (joinRows r s) ≡ true → (y : ℕ) → InRows y r ⊎ InRows y s → (lo ≤ y) × (y ≤ hi)
   joined-in h y (inl i) =
-      within-in lo hi r v (both-first (rowsWithin lo hi r) (rowsWithin lo hi s) (sym (join-within lo hi r s) ∙ h)) y i
+      within-in lo hi r v (and-first (rowsWithin lo hi r) (rowsWithin lo hi s) (sym (join-within lo hi r s) ∙ h)) y i
   joined-in h y (inr i) =
-      within-in lo hi s w (both-second (rowsWithin lo hi r) (rowsWithin lo hi s) (sym (join-within lo hi r s) ∙ h)) y i
+      within-in lo hi s w (and-second (rowsWithin lo hi r) (rowsWithin lo hi s) (sym (join-within lo hi r s) ∙ h)) y i
 
   in-joined : ((y : ℕ) → InRows y r ⊎ InRows y s → (lo ≤ y) × (y ≤ hi)) → rowsWithin lo hi (joinRows r s) ≡ true
   in-joined f =
@@ -261,11 +260,11 @@ module _ (h : ℕ) (n : Node) (lo hi : ℕ) where
 -- a subgraph's border and its label's row are whole
 
 border-whole : (h : ℕ) (s : Subgraph) → Whole (borderRows h s)
-border-whole h s = pick-whole (hasBorder s) (boxRows h (s .y) (s .height)) (sheet-rows-whole h (s .y) (s .y + s .height - 1))
+border-whole h s = cond-whole (hasBorder s) (boxRows h (s .y) (s .height)) (sheet-rows-whole h (s .y) (s .y + s .height - 1))
 
 label-whole : (h : ℕ) (ranges : List ℕ) (s : Subgraph) (label : List ℕ) → Whole (labelRows h ranges s label)
 label-whole h ranges s label =
-    pick-whole (labelInks ranges s label) (sheetRows h (labelRow s) (labelRow s)) (sheet-rows-whole h (labelRow s) (labelRow s))
+    cond-whole (labelInks ranges s label) (sheetRows h (labelRow s) (labelRow s)) (sheet-rows-whole h (labelRow s) (labelRow s))
 
 -- rows that are none lie anywhere
 no-rows : (r : Rows) → noRows r ≡ true → rowsWithin 1 0 r ≡ true

@@ -3,18 +3,17 @@ use Prim.Native.Nat.{ℕ, zero, suc, _+_, _-_, _*_, _≤_, _<_}
 use native.Mathlib.Omega.{arith}
 use native.Mathlib.Numerals.{add-one}
 use mathlib.Core.Path.{_≡_, refl, sym, _∙_}
-use mathlib.Core.Bool.{Bool, true, false, not}
+use mathlib.Core.Bool.{Bool, true, false, not, _||_}
 use mathlib.Core.List.{List, [], _∷_}
 use lib.ListN.{length, getD, take, drop, replicate}
 use lib.Dec.{leb, ltb, eqb}
 use borrow.Author.Tests.{leb-true, eq-eqb, ne-eqb, lt-ltb, le-ltb}
 use types.Run.{OneOf, miss}
 use denote.Enum.Declared.{tagOf}
-use Rattle.ground.specs.Choice.{pick, both, either}
 use Rattle.ground.specs.First.{foundIf, firstFrom}
 use Rattle.ground.specs.declared.Found.{Found}
 use Rattle.ground.specs.declared.Found.the-variants as found
-use Rattle.ground.proofs.Order.{pick-bound}
+use Rattle.ground.proofs.Order.{cond-bound}
 use Rattle.ground.proofs.First.{first-whole}
 use Rattle.image.specs.declared.ElementKind.{ElementKind}
 use Rattle.image.specs.declared.ElementKind.the-variants as kind
@@ -92,7 +91,7 @@ module _ (e : Edge) (offset : ℕ) (points : List ℕ) where
       (k n : ℕ) →
       k < n →
       anyBelow e offset points k (n - k)
-      ≡ either (legBelow e offset (e .«flow_axis») (legAt e points k)) (anyBelow e offset points (k + 1) (n - (k + 1)))
+      ≡ legBelow e offset (e .«flow_axis») (legAt e points k) || anyBelow e offset points (k + 1) (n - (k + 1))
   unfolding anyBelow
   below-step k n h = let d : n - k ≡ suc (n - (k + 1)) = omega arith in rw (d, add-one k)
 
@@ -334,8 +333,8 @@ module _ (slots : List ℕ) (kind : ElementKind) (image : List ℕ) (ts : Tables
 module _ (ts : Tables) (limits : Limits ts) where
   count-few : (kind : ℕ) → countOf ts kind ≤ 1024
   count-few kind =
-      pick-bound (eqb kind 0) (ts .nodes .count) _ 1024 (limits .nodes)
-      (pick-bound (eqb kind 1) (ts .edges .count) (ts .subgraphs .count) 1024 (limits .edges) (limits .subgraphs))
+      cond-bound (eqb kind 0) (ts .nodes .count) _ 1024 (limits .nodes)
+      (cond-bound (eqb kind 1) (ts .edges .count) (ts .subgraphs .count) 1024 (limits .edges) (limits .subgraphs))
 
   things-few : (kind : ElementKind) → thingTable kind ts .count ≤ 1024
   things-few kind.Node = limits .nodes

@@ -1,9 +1,8 @@
 -- Code 6: "a MultiSegment corner lies below 0", at the first such edge; and the run count.
 use Prim.Native.Nat.{ℕ, zero, suc, _+_}
-use mathlib.Core.Bool.{Bool, true, false, not}
+use mathlib.Core.Bool.{Bool, true, false, not, _&&_, _||_}
 use mathlib.Core.List.{List}
 use lib.Dec.{eqb}
-use Rattle.ground.specs.Choice.{both, either}
 use Rattle.ground.specs.First.{foundIf, firstFrom}
 use Rattle.ground.specs.declared.Found.{Found}
 use Rattle.image.specs.declared.Tables.{Tables}
@@ -30,14 +29,14 @@ isBelow place.Below = true
 -- a leg has a corner where its ends differ across the flow: the row on Y flow, the column on X flow
 
 unfoldable pub legBelow : Edge → ℕ → FlowAxis → Leg → Bool
-legBelow e offset Y leg = both (not (eqb (leg .x1) (leg .x2))) (isBelow (cornerRow e offset leg))
-legBelow e offset X leg = both (not (eqb (leg .y1) (leg .y2))) (isBelow (cornerColumn e offset leg))
+legBelow e offset Y leg = not (eqb (leg .x1) (leg .x2)) && isBelow (cornerRow e offset leg)
+legBelow e offset X leg = not (eqb (leg .y1) (leg .y2)) && isBelow (cornerColumn e offset leg)
 
 -- some leg from leg k on, so many, has such a corner
 unfoldable pub anyBelow : Edge → ℕ → List ℕ → ℕ → ℕ → Bool
 anyBelow e offset points k zero = false
 anyBelow e offset points k (suc left) =
-    either (legBelow e offset (e .«flow_axis») (legAt e points k)) (anyBelow e offset points (suc k) left)
+    legBelow e offset (e .«flow_axis») (legAt e points k) || anyBelow e offset points (suc k) left
 
 -- the points of an edge's path
 abbrev pub pathSpan : Path → Span

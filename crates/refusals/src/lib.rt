@@ -36,7 +36,7 @@ fn check_runs(image: &[u32], ts: Tables) -> Answer
     ensures { λ r. ⌜ r ≡ judgeRuns (now (image .entry)) ts ⌝ }
 {
     let runs = listing::run_count(image, ts);
-    if ground::wide(word(image, 2)) < runs {
+    if ground::number(word(image, 2)) < runs {
         return refused(10, 2);
     }
     Answer {

@@ -30,16 +30,16 @@ fn lacks(image: &[u32], ts: Tables, slot: u32, touched: Rows) -> bool
         };
         return true;
     }
-    let k = ground::wide(slot - 1);
-    let first = ground::wide(elements::first_row(image, ts, k));
-    let last = ground::wide(elements::last_row(image, ts, k));
+    let k = ground::number(slot - 1);
+    let first = ground::number(elements::first_row(image, ts, k));
+    let last = ground::number(elements::last_row(image, ts, k));
     !touched.within(first, last)
 }
 
 fn sheet_height(image: &[u32]) -> usize
     ensures { λ r. ⌜ r ≡ height (now (image .entry)) ⌝ }
 {
-    ground::wide(word(image, 1))
+    ground::number(word(image, 1))
 }
 
 fn node_touches(image: &[u32], ts: Tables, k: usize) -> Rows
@@ -131,7 +131,7 @@ pub fn unlisted(kind: ElementKind, image: &[u32], ts: Tables, slots: &[u32]) -> 
     ensures { λ r. ⌜ r ≡ unlistedIn (now (slots .entry)) kind (now (image .entry)) ts ⌝ }
 {
     let t = thing_table(kind, ts);
-    let number = ground::wide(kind_number(kind));
+    let number = ground::number(kind_number(kind));
     let count = t.count;
     let mut k: usize = 0;
     while k < count {

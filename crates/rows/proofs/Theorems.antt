@@ -1,12 +1,11 @@
 -- What holds of rows of the sheet: which rows they are, and two such together.
 use native.Mathlib.Omega.{arith}
 use Prim.Native.Nat.{ℕ, _≤_, _<_, min, max}
-use mathlib.Core.Bool.{Bool, true, false}
+use mathlib.Core.Bool.{Bool, true, false, cond, _&&_}
 use mathlib.Core.Logic.{_↔_}
 use mathlib.Core.Path.{_≡_, refl}
 use lib.Dec.{leb}
 use borrow.Author.Tests.{le-leb, lt-leb, lt-ltb, le-ltb, leb-true}
-use Rattle.ground.specs.Choice.{pick, both}
 use Rattle.ground.proofs.Order.{by-order}
 use Rattle.rows.specs.declared.Rows.{Rows}
 use Rattle.rows.specs.declared.Rows.the-variants.{None, From}
@@ -23,9 +22,9 @@ sheet-rows-in h a b y =
     (λ q. simp (le-leb _ _ p, le-ltb _ _ q) (λ i. absurd i, λ i. omega arith)))
 
 -- Whole rows, where a test holds, are whole.
-pub pick-whole : (test : Bool) (r : Rows) → Whole r → Whole (pick test r None)
-pick-whole true r w = w
-pick-whole false r w = tt
+pub cond-whole : (test : Bool) (r : Rows) → Whole r → Whole (cond test r None)
+cond-whole true r w = w
+cond-whole false r w = tt
 
 -- The rows of the sheet from a to b are whole.
 pub sheet-rows-whole : (h a b : ℕ) → Whole (sheetRows h a b)
@@ -44,7 +43,7 @@ join-whole (From a b) None p q = p
 join-whole (From a b) (From c d) p q = omega arith
 
 -- a number is at most the lesser of two exactly where it is at most each
-leb-min : (n a b : ℕ) → leb n (min a b) ≡ both (leb n a) (leb n b)
+leb-min : (n a b : ℕ) → leb n (min a b) ≡ leb n a && leb n b
 leb-min n a b =
     by-order a n
     (λ p. let m : min a b < n = omega arith in simp (lt-leb _ _ p, lt-leb _ _ m))
@@ -53,7 +52,7 @@ leb-min n a b =
     (λ q. let m : n ≤ min a b = omega arith in simp (le-leb _ _ p, le-leb _ _ q, le-leb _ _ m)))
 
 -- the greater of two is at most a number exactly where each is
-max-leb : (n a b : ℕ) → leb (max a b) n ≡ both (leb a n) (leb b n)
+max-leb : (n a b : ℕ) → leb (max a b) n ≡ leb a n && leb b n
 max-leb n a b =
     by-order n a
     (λ p. let m : n < max a b = omega arith in simp (lt-leb _ _ p, lt-leb _ _ m))
@@ -62,25 +61,25 @@ max-leb n a b =
     (λ q. let m : max a b ≤ n = omega arith in simp (le-leb _ _ p, le-leb _ _ q, le-leb _ _ m)))
 
 -- of four tests it does not matter which two are taken first
-both-four : (a b c d : Bool) → both (both a b) (both c d) ≡ both (both a c) (both b d)
-both-four true true c d = refl
-both-four true false true d = refl
-both-four true false false d = refl
-both-four false b c d = refl
+and-four : (a b c d : Bool) → (a && b) && (c && d) ≡ (a && c) && (b && d)
+and-four true true c d = refl
+and-four true false true d = refl
+and-four true false false d = refl
+and-four false b c d = refl
 
 -- a test that holds adds nothing
-both-true : (a : Bool) → both a true ≡ a
-both-true true = refl
-both-true false = refl
+and-true : (a : Bool) → a && true ≡ a
+and-true true = refl
+and-true false = refl
 
 -- Two together lie from low to high exactly where each does.
 pub join-within :
     (lo hi : ℕ) (r s : Rows) →
-    rowsWithin lo hi (joinRows r s) ≡ both (rowsWithin lo hi r) (rowsWithin lo hi s)
+    rowsWithin lo hi (joinRows r s) ≡ rowsWithin lo hi r && rowsWithin lo hi s
 join-within lo hi None s = refl
-join-within lo hi (From a b) None = rw (both-true (both (leb lo a) (leb b hi)))
+join-within lo hi (From a b) None = rw (and-true (leb lo a && leb b hi))
 join-within lo hi (From a b) (From c d) =
-    rw (leb-min lo a c, max-leb hi b d) (both-four (leb lo a) (leb lo c) (leb b hi) (leb d hi))
+    rw (leb-min lo a c, max-leb hi b d) (and-four (leb lo a) (leb lo c) (leb b hi) (leb d hi))
 
 -- Of three together it does not matter which two are joined first.
 pub join-assoc : (r s t : Rows) → joinRows (joinRows r s) t ≡ joinRows r (joinRows s t)
@@ -99,13 +98,13 @@ join-none (From a b) = refl
 
 -- where both tests hold, the first does, and the second does
 
-both-first : (a b : Bool) → both a b ≡ true → a ≡ true
-both-first true b e = refl
-both-first false b e = e
+and-first : (a b : Bool) → a && b ≡ true → a ≡ true
+and-first true b e = refl
+and-first false b e = e
 
-both-second : (a b : Bool) → both a b ≡ true → b ≡ true
-both-second true b e = e
-both-second false b e = cc
+and-second : (a b : Bool) → a && b ≡ true → b ≡ true
+and-second true b e = e
+and-second false b e = cc
 
 -- Each of whole rows that lie from low to high is from low to high.
 pub within-in :
@@ -117,8 +116,8 @@ pub within-in :
     (lo ≤ y) × (y ≤ hi)
 within-in lo hi None w e y i = absurd i
 within-in lo hi (From a b) w e y i =
-    let p : lo ≤ a = leb-true _ _ (both-first (leb lo a) (leb b hi) e) in
-    let q : b ≤ hi = leb-true _ _ (both-second (leb lo a) (leb b hi) e) in
+    let p : lo ≤ a = leb-true _ _ (and-first (leb lo a) (leb b hi) e) in
+    let q : b ≤ hi = leb-true _ _ (and-second (leb lo a) (leb b hi) e) in
     (omega arith, omega arith)
 
 -- Whole rows of which each is from low to high lie from low to high.

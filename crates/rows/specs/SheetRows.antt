@@ -1,14 +1,13 @@
 -- Rows of the sheet, from a first to a last, or none; and two such together.
 use Prim.Native.Nat.{ℕ, _-_, _≤_, min, max}
-use mathlib.Core.Bool.{Bool, true, false}
+use mathlib.Core.Bool.{Bool, true, false, cond, _&&_}
 use lib.Dec.{leb, ltb}
-use Rattle.ground.specs.Choice.{pick, both}
 use Rattle.rows.specs.declared.Rows.{Rows}
 use Rattle.rows.specs.declared.Rows.the-variants.{None, From}
 
 -- the rows of the sheet among those from a to b
 unfoldable pub sheetRows : ℕ → ℕ → ℕ → Rows
-sheetRows height a b = pick (both (leb a b) (ltb a height)) (From a (min b (height - 1))) None
+sheetRows height a b = cond (leb a b && ltb a height) (From a (min b (height - 1))) None
 
 -- from the least row of both to the greatest
 abbrev pub joinRows : Rows → Rows → Rows
@@ -19,7 +18,7 @@ joinRows (From a b) (From c d) = From (min a c) (max b d)
 -- all rows lie from low to high
 abbrev pub rowsWithin : ℕ → ℕ → Rows → Bool
 rowsWithin low high None = true
-rowsWithin low high (From a b) = both (leb low a) (leb b high)
+rowsWithin low high (From a b) = leb low a && leb b high
 
 -- a row is among them
 abbrev pub InRows : ℕ → Rows → Type 0

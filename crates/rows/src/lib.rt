@@ -15,7 +15,7 @@ pub fn sheet_rows(height: usize, a: usize, b: usize) -> Rows
         if a < height {
             return Rows::From {
                 first: a,
-                last: ground::lower(b, height - 1),
+                last: ground::min(b, height - 1),
             };
         }
     }
@@ -33,8 +33,8 @@ impl Rows {
         match other {
             Rows::None => self,
             Rows::From { first: f, last: l } => Rows::From {
-                first: ground::lower(first, f),
-                last: ground::upper(last, l),
+                first: ground::min(first, f),
+                last: ground::max(last, l),
             },
         }
     }

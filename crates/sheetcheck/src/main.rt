@@ -26,7 +26,7 @@ fn explain_field(image: &[u32], ts: Tables, place: usize)
     say::number(index);
     say::text(b", ");
     names::field(kind, field);
-    say::count(b": holds ", ground::wide(word(image, place)));
+    say::count(b": holds ", ground::number(word(image, place)));
     say::text(b"; may hold ");
     names::rule(kind, field);
     say::text(b"\n");
@@ -35,7 +35,7 @@ fn explain_field(image: &[u32], ts: Tables, place: usize)
 fn explain_header(image: &[u32], place: usize) {
     say::text(b"header, ");
     names::header_field(place);
-    say::count(b": holds ", ground::wide(word(image, place)));
+    say::count(b": holds ", ground::number(word(image, place)));
     say::text(b"; may hold ");
     names::header_rule(place);
     say::text(b"\n");
@@ -68,7 +68,7 @@ fn next_word(image: &[u32], place: usize, by: usize) -> usize
     requires { ⌜ by ≤ 8 ⌝ }
 {
     if place < 1000000 {
-        ground::wide(word(image, place + by))
+        ground::number(word(image, place + by))
     } else {
         0
     }
@@ -121,7 +121,7 @@ fn lists(image: &[u32], ts: Tables, k: usize, kind: u32, index: usize) -> bool
     let elements = ts.elements;
     let at = elements.at(k);
     if word(image, at) == kind {
-        ground::wide(word(image, at + 1)) == index
+        ground::number(word(image, at + 1)) == index
     } else {
         false
     }
@@ -150,9 +150,9 @@ fn say_rows_listed(image: &[u32], ts: Tables, k: usize)
     say::count(b"; element ", k);
     say::count(
         b" lists rows ",
-        ground::wide(elements::first_row(image, ts, k)),
+        ground::number(elements::first_row(image, ts, k)),
     );
-    say::count(b" to ", ground::wide(elements::last_row(image, ts, k)));
+    say::count(b" to ", ground::number(elements::last_row(image, ts, k)));
     say::text(b"\n");
 }
 
@@ -206,7 +206,7 @@ fn explain_runs(image: &[u32], ts: Tables)
 {
     say::count(
         b"header, run capacity: holds ",
-        ground::wide(word(image, 2)),
+        ground::number(word(image, 2)),
     );
     let edges = ts.edges;
     if edges.count <= 1024 {

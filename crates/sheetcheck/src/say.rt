@@ -16,14 +16,14 @@ pub fn count(words: &[u8], n: usize) {
 }
 
 pub fn accepted(width: u32, height: u32, runs: usize) {
-    count(b"accepted width ", ground::wide(width));
-    count(b" height ", ground::wide(height));
+    count(b"accepted width ", ground::number(width));
+    count(b" height ", ground::number(height));
     count(b" runs ", runs);
     text(b"\n");
 }
 
 pub fn refused(code: u32, place: usize) {
-    count(b"refused ", ground::wide(code));
+    count(b"refused ", ground::number(code));
     count(b" ", place);
     text(b"\n");
 }

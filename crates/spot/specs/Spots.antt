@@ -1,8 +1,7 @@
 -- Which word of which record stands at a place of an image: the header's words, then the tables in their order.
 use Prim.Native.Nat.{ℕ, _-_, _/_, _%_}
-use mathlib.Core.Bool.{Bool, true, false}
+use mathlib.Core.Bool.{Bool, true, false, cond, _&&_}
 use lib.Dec.{ltb}
-use Rattle.ground.specs.Choice.{pick, both}
 use Rattle.image.specs.declared.Table.{Table}
 use Rattle.image.specs.declared.Tables.{Tables}
 use Rattle.image.specs.SheetImage.{tableEnd}
@@ -19,11 +18,11 @@ inTable kind t place = Record kind ((place - t .start) / t .size) ((place - t .s
 -- a place before the end of a kind's table is in it, or else where the tables after it say
 abbrev pub orIn : RecordKind → Tables → ℕ → Spot → Spot
 orIn kind ts place later =
-    pick (both (ltb place (tableEnd (tableOf kind ts))) (ltb 0 (tableOf kind ts .size))) (inTable kind (tableOf kind ts) place) later
+    cond (ltb place (tableEnd (tableOf kind ts)) && ltb 0 (tableOf kind ts .size)) (inTable kind (tableOf kind ts) place) later
 
 unfoldable pub spotOf : Tables → ℕ → Spot
 spotOf ts place =
-    pick (ltb place 12) (Header place)
+    cond (ltb place 12) (Header place)
     (orIn kind.Node ts place
     (orIn kind.Edge ts place
     (orIn kind.Subgraph ts place

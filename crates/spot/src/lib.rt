@@ -27,7 +27,7 @@ fn in_table(kind: RecordKind, t: Table, place: usize) -> Spot
     ensures { λ r. ⌜ r ≡ inTable kind t place ⌝ }
 {
     let size = t.size;
-    let words = ground::below(place, t.start);
+    let words = ground::minus(place, t.start);
     Spot::Record {
         kind: kind,
         index: words / size,

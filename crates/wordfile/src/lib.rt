@@ -27,7 +27,7 @@ pub fn fill(bytes: &[u8], words: &mut [u32]) -> usize
     ensures { λ r. ⌜ r ≡ min (length (now (bytes .entry)) / 4) (length (now (words .entry))) ⌝ }
     ensures { λ r. ⌜ now (words .exit) ≡ filled (now (bytes .entry)) (now (words .entry)) 0 (min (length (now (bytes .entry)) / 4) (length (now (words .entry)))) ⌝ }
 {
-    let count = ground::lower(bytes.len() / 4, words.len());
+    let count = ground::min(bytes.len() / 4, words.len());
     let mut k: usize = 0;
     while k < count {
         words[k] = word_at(bytes, k);

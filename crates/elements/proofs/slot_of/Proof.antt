@@ -4,14 +4,14 @@ use borrow.Author.Needs.{needs}
 use Rattle.elements.proofs.slot_of.Statement.{statement}
 use Rattle.elements.proofs.slot_of.Tie as tie
 
-wide-requires : tie.Need-wide-requires
-wide-requires c κs = search needs
+number-requires : tie.Need-number-requires
+number-requires c κs = search needs
 
 mul-result : tie.Need-mul-result
 mul-result c = omega arith
 
-wide-requires-2 : tie.Need-wide-requires-2
-wide-requires-2 c κs = search needs
+number-requires-2 : tie.Need-number-requires-2
+number-requires-2 c κs = search needs
 
 add-result : tie.Need-add-result
 add-result c = omega arith
@@ -20,4 +20,4 @@ returns : tie.Need-returns
 returns c = omega arith
 
 pub slot-of-spec : {M : Type 1} → statement M
-slot-of-spec = tie.close (tie.spec wide-requires mul-result wide-requires-2 add-result returns)
+slot-of-spec = tie.close (tie.spec number-requires mul-result number-requires-2 add-result returns)

@@ -26,13 +26,13 @@ shared-slice-read-char-width c = search needs
 char-width-requires : tie.Need-char-width-requires Inv-loop μ-loop
 char-width-requires c κs = search needs
 
-wide-requires : tie.Need-wide-requires Inv-loop μ-loop
-wide-requires c κs = search needs
+number-requires : tie.Need-number-requires Inv-loop μ-loop
+number-requires c κs = search needs
 
 returns : tie.Need-returns Inv-loop μ-loop
 returns c =
     let l = c .before .before .before .before .before .loop in
-    let e = c .before .wide .ensures .0 ∙ c .before .before .char-width .ensures .0 in
+    let e = c .before .number .ensures .0 ∙ c .before .before .char-width .ensures .0 in
     (no-more _ _ _ _ _ (l .inv .1) _ (search needs) e (search needs), search needs)
 
 add-n : tie.Need-add-n Inv-loop μ-loop
@@ -44,7 +44,7 @@ loop-less c = search needs
 loop-again : tie.Need-loop-again Inv-loop μ-loop
 loop-again c =
     let l = c .before .before .before .before .before .loop in
-    let e = c .before .wide .ensures .0 ∙ c .before .before .char-width .ensures .0 in
+    let e = c .before .number .ensures .0 ∙ c .before .before .char-width .ensures .0 in
     (search needs, one-more _ _ _ _ _ (l .inv .1) _ (search needs) e (search needs))
 
 returns-2 : tie.Need-returns-2 Inv-loop μ-loop
@@ -60,7 +60,7 @@ fit-count-spec =
     mul-char-width
     shared-slice-read-char-width
     char-width-requires
-    wide-requires
+    number-requires
     returns
     add-n
     loop-less

@@ -7,11 +7,11 @@ use Rattle.image.proofs.Laws.{record-inside, span-inside, span-outside,
 use Rattle.image.proofs.span_part.Statement.{statement}
 use Rattle.image.proofs.span_part.Tie as tie
 
-wide-requires : tie.Need-wide-requires
-wide-requires c κs = search needs
+number-requires : tie.Need-number-requires
+number-requires c κs = search needs
 
-wide-requires-2 : tie.Need-wide-requires-2
-wide-requires-2 c κs = search needs
+number-requires-2 : tie.Need-number-requires-2
+number-requires-2 c κs = search needs
 
 add-if1 : tie.Need-add-if1
 add-if1 c = search needs
@@ -40,13 +40,13 @@ part-result-start c = search needs
 part-result-end : tie.Need-part-result-end
 part-result-end c =
     let c5 = c .before .before .before .before .before in
-    let last = c5 .before .wide .result + c5 .wide2 .result in
+    let last = c5 .before .number .result + c5 .number2 .result in
     omega (arith, record-inside (c5 .before .before .before .args .table) last (search needs))
 
 returns : tie.Need-returns
 returns c =
     let c6 = c .before .before .before .before .before .before in
-    span-inside _ _ _ _ _ _ _ (c6 .before .wide .ensures .0) (c6 .wide2 .ensures .0)
+    span-inside _ _ _ _ _ _ _ (c6 .before .number .ensures .0) (c6 .number2 .ensures .0)
     (c .before .before .at .ensures .0) (c .before .at2 .ensures .0) (search needs) (search needs)
 
 sub-result-2 : tie.Need-sub-result-2
@@ -66,8 +66,8 @@ pub span-part-spec : {M : Type 1} → statement M
 span-part-spec =
     tie.close
     (tie.spec
-    wide-requires
-    wide-requires-2
+    number-requires
+    number-requires-2
     add-if1
     end-requires
     at-requires

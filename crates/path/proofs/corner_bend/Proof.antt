@@ -10,20 +10,20 @@ source-marker-requires c κs = search needs
 target-marker-requires : tie.Need-target-marker-requires
 target-marker-requires c κs = search needs
 
-wide-requires : tie.Need-wide-requires
-wide-requires c κs = search needs
+number-requires : tie.Need-number-requires
+number-requires c κs = search needs
 
-wide-requires-2 : tie.Need-wide-requires-2
-wide-requires-2 c κs = search needs
+number-requires-2 : tie.Need-number-requires-2
+number-requires-2 c κs = search needs
 
-wide-requires-3 : tie.Need-wide-requires-3
-wide-requires-3 c κs = search needs
+number-requires-3 : tie.Need-number-requires-3
+number-requires-3 c κs = search needs
 
-wide-requires-4 : tie.Need-wide-requires-4
-wide-requires-4 c κs = search needs
+number-requires-4 : tie.Need-number-requires-4
+number-requires-4 c κs = search needs
 
-wide-requires-5 : tie.Need-wide-requires-5
-wide-requires-5 c κs = search needs
+number-requires-5 : tie.Need-number-requires-5
+number-requires-5 c κs = search needs
 
 returns : tie.Need-returns
 unfolding cornerBend
@@ -31,11 +31,11 @@ returns c = (
   rw (
     c .before .before .before .before .before .before .source-marker .ensures,
     c .before .before .before .before .before .target-marker .ensures,
-    c .before .before .before .before .wide .ensures .0,
-    c .before .before .before .wide2 .ensures .0,
-    c .before .before .wide3 .ensures .0,
-    c .before .wide4 .ensures .0,
-    c .wide5 .ensures .0,
+    c .before .before .before .before .number .ensures .0,
+    c .before .before .before .number2 .ensures .0,
+    c .before .before .number3 .ensures .0,
+    c .before .number4 .ensures .0,
+    c .number5 .ensures .0,
   ),
   record { at = search needs; x1 = search needs; y1 = search needs; x2 = search needs; y2 = search needs },
 )
@@ -46,9 +46,9 @@ corner-bend-spec =
     (tie.spec
     source-marker-requires
     target-marker-requires
-    wide-requires
-    wide-requires-2
-    wide-requires-3
-    wide-requires-4
-    wide-requires-5
+    number-requires
+    number-requires-2
+    number-requires-3
+    number-requires-4
+    number-requires-5
     returns)

@@ -5,16 +5,16 @@ use borrow.Author.Needs.{needs}
 use Rattle.rows.proofs.sheet_rows.Statement.{statement}
 use Rattle.rows.proofs.sheet_rows.Tie as tie
 
-sub-lower : tie.Need-sub-lower
-sub-lower c = search needs
+sub-min : tie.Need-sub-min
+sub-min c = search needs
 
-lower-requires : tie.Need-lower-requires
-lower-requires c κs = search needs
+min-requires : tie.Need-min-requires
+min-requires c κs = search needs
 
 returns : tie.Need-returns
 unfolding sheetRows
 returns c =
-    simp (le-leb _ _ (c .before .before .if1 .taken), lt-ltb _ _ (c .before .if2 .taken), c .lower .ensures)
+    simp (le-leb _ _ (c .before .before .if1 .taken), lt-ltb _ _ (c .before .if2 .taken), c .min .ensures)
 
 returns-2 : tie.Need-returns-2
 unfolding sheetRows
@@ -25,4 +25,4 @@ unfolding sheetRows
 returns-3 c = simp (lt-leb _ _ (c .if1 .left))
 
 pub sheet-rows-spec : {M : Type 1} → statement M
-sheet-rows-spec = tie.close (tie.spec sub-lower lower-requires returns returns-2 returns-3)
+sheet-rows-spec = tie.close (tie.spec sub-min min-requires returns returns-2 returns-3)

@@ -15,8 +15,8 @@ Inv-loop bytes words₀ count k₀ words k =
 abbrev μ-loop : tie.MeasureT-loop
 μ-loop bytes words₀ count k₀ words k = count - k
 
-lower-requires : tie.Need-lower-requires Inv-loop μ-loop
-lower-requires c κs = search needs
+min-requires : tie.Need-min-requires Inv-loop μ-loop
+min-requires c κs = search needs
 
 loop-holds : tie.Need-loop-holds Inv-loop μ-loop
 loop-holds c = (search needs, search needs, search needs, all-left _ _ _)
@@ -46,7 +46,7 @@ same-length c = search needs
 
 returns : tie.Need-returns Inv-loop μ-loop
 returns c =
-    let e = c .before .before .lower .ensures in
+    let e = c .before .before .min .ensures in
     (e, rw (← e) (none-left _ _ _ _ _ (search needs) (c .before .loop .inv .3)))
 
 pub fill-spec : {M : Type 1} → statement M
@@ -55,7 +55,7 @@ fill-spec =
     (tie.spec
     Inv-loop
     μ-loop
-    lower-requires
+    min-requires
     loop-holds
     word-at-requires
     mul-words

@@ -13,8 +13,8 @@ add-word c = search needs
 word-requires-2 : tie.Need-word-requires-2
 word-requires-2 c κs = search needs
 
-wide-requires : tie.Need-wide-requires
-wide-requires c κs = search needs
+number-requires : tie.Need-number-requires
+number-requires c κs = search needs
 
 count-of-requires : tie.Need-count-of-requires
 count-of-requires c κs = search needs
@@ -62,7 +62,7 @@ returns c =
       a .at-most .ensures,
       a .before .unless .ensures,
       a .before .before .count-of .ensures,
-      a .before .before .before .wide .ensures .0,
+      a .before .before .before .number .ensures .0,
       a .before .before .before .before .word2 .ensures,
       b .word .ensures,
     ) (element-words _ _ _)
@@ -74,7 +74,7 @@ bad-element-spec =
     word-requires
     add-word
     word-requires-2
-    wide-requires
+    number-requires
     count-of-requires
     add-unless
     unless-requires

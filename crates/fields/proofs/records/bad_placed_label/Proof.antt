@@ -7,8 +7,8 @@ use Rattle.fields.proofs.records.bad_placed_label.Tie as tie
 word-requires : tie.Need-word-requires
 word-requires c κs = search needs
 
-wide-requires : tie.Need-wide-requires
-wide-requires c κs = search needs
+number-requires : tie.Need-number-requires
+number-requires c κs = search needs
 
 unless-requires : tie.Need-unless-requires
 unless-requires c κs = search needs
@@ -59,7 +59,7 @@ returns c =
       a .unless2 .ensures,
       a .before .word2 .ensures,
       a .before .before .unless .ensures,
-      a .before .before .before .before .wide .ensures .0,
+      a .before .before .before .before .number .ensures .0,
       b .word .ensures,
     ) (placed-label-words _ _ _)
 
@@ -68,7 +68,7 @@ bad-placed-label-spec =
     tie.close
     (tie.spec
     word-requires
-    wide-requires
+    number-requires
     unless-requires
     add-word
     word-requires-2

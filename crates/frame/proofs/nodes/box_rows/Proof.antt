@@ -5,11 +5,11 @@ use mathlib.Core.Path.{_≡_}
 use Rattle.frame.proofs.nodes.box_rows.Statement.{statement}
 use Rattle.frame.proofs.nodes.box_rows.Tie as tie
 
-wide-requires : tie.Need-wide-requires
-wide-requires c κs = search needs
+number-requires : tie.Need-number-requires
+number-requires c κs = search needs
 
-wide-requires-2 : tie.Need-wide-requires-2
-wide-requires-2 c κs = search needs
+number-requires-2 : tie.Need-number-requires-2
+number-requires-2 c κs = search needs
 
 add-end : tie.Need-add-end
 add-end c = search needs
@@ -24,19 +24,19 @@ sheet-rows-requires-2 : tie.Need-sheet-rows-requires-2
 sheet-rows-requires-2 c κs = search needs
 
 returns : tie.Need-returns
-returns c = rw (c .sheet-rows .ensures, c .before .before .before .wide .ensures .0, c .before .before .wide2 .ensures .0)
+returns c = rw (c .sheet-rows .ensures, c .before .before .before .number .ensures .0, c .before .before .number2 .ensures .0)
 
 returns-2 : tie.Need-returns-2
 returns-2 c =
     let e : c .before .before .before .before .args .y + c .before .before .before .before .args .tall - 1 ≡ 0 = search needs in
-    rw (e, c .sheet-rows2 .ensures, c .before .before .before .wide .ensures .0)
+    rw (e, c .sheet-rows2 .ensures, c .before .before .before .number .ensures .0)
 
 pub box-rows-spec : {M : Type 1} → statement M
 box-rows-spec =
     tie.close
     (tie.spec
-    wide-requires
-    wide-requires-2
+    number-requires
+    number-requires-2
     add-end
     sub-sheet-rows
     sheet-rows-requires

@@ -4,8 +4,8 @@ use Rattle.frame.specs.Nodes.{nodeRows}
 use Rattle.frame.proofs.nodes.node_rows.Statement.{statement}
 use Rattle.frame.proofs.nodes.node_rows.Tie as tie
 
-wide-requires : tie.Need-wide-requires
-wide-requires c κs = search needs
+number-requires : tie.Need-number-requires
+number-requires c κs = search needs
 
 look-of-requires : tie.Need-look-of-requires
 look-of-requires c κs = search needs
@@ -62,7 +62,7 @@ unfolding nodeRows
 returns-2 c =
     rw (
       c .sheet-rows .ensures,
-      c .before .before .before .before .wide .ensures .0,
+      c .before .before .before .before .number .ensures .0,
       ← c .before .before .before .look-of .ensures,
       c .before .enum-told2 .given .1,
     )
@@ -84,7 +84,7 @@ returns-4 c =
     rw (
       c .join2 .ensures,
       c .before .before .sheet-rows2 .ensures,
-      c .before .before .before .before .before .before .wide .ensures .0,
+      c .before .before .before .before .before .before .number .ensures .0,
       c .before .loop-rows2 .ensures,
       ← c .before .before .before .before .before .look-of .ensures,
       c .before .before .before .enum-told4 .given .1,
@@ -103,7 +103,7 @@ pub node-rows-spec : {M : Type 1} → statement M
 node-rows-spec =
     tie.close
     (tie.spec
-    wide-requires
+    number-requires
     look-of-requires
     enum-told
     enum-told-2

@@ -6,11 +6,11 @@ use Rattle.image.proofs.Table.after.Tie as tie
 end-requires : tie.Need-end-requires
 end-requires c κs = search needs
 
-wide-requires : tie.Need-wide-requires
-wide-requires c κs = search needs
+number-requires : tie.Need-number-requires
+number-requires c κs = search needs
 
 returns : tie.Need-returns
 returns c = (cc, search needs, search needs)
 
 pub after-spec : {M : Type 1} → statement M
-after-spec = tie.close (tie.spec end-requires wide-requires returns)
+after-spec = tie.close (tie.spec end-requires number-requires returns)

@@ -11,8 +11,8 @@ use Rattle.image.proofs.Tables.read.Tie as tie
 word-requires : tie.Need-word-requires
 word-requires c κs = search needs
 
-wide-requires : tie.Need-wide-requires
-wide-requires c κs = search needs
+number-requires : tie.Need-number-requires
+number-requires c κs = search needs
 
 word-requires-2 : tie.Need-word-requires-2
 word-requires-2 c κs = search needs
@@ -86,7 +86,7 @@ returns c =
     let tables =
     tables-fields (c15 .before .before .args .image .now) _ _ _ _ _ _ _ _ _ _ _ _ _ _ _ _
     (c15 .word .ensures)
-    (c10 .before .before .before .before .wide .ensures .0)
+    (c10 .before .before .before .before .number .ensures .0)
     (c10 .before .before .before .word2 .ensures)
     (c10 .before .before .after .ensures .0)
     (c10 .before .word3 .ensures)
@@ -110,7 +110,7 @@ read-spec =
     tie.close
     (tie.spec
     word-requires
-    wide-requires
+    number-requires
     word-requires-2
     after-requires
     word-requires-3

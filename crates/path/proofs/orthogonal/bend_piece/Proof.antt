@@ -4,11 +4,11 @@ use Rattle.path.specs.Orthogonal.{bendPiece}
 use Rattle.path.proofs.orthogonal.bend_piece.Statement.{statement}
 use Rattle.path.proofs.orthogonal.bend_piece.Tie as tie
 
-wide-requires : tie.Need-wide-requires
-wide-requires c κs = search needs
+number-requires : tie.Need-number-requires
+number-requires c κs = search needs
 
-wide-requires-2 : tie.Need-wide-requires-2
-wide-requires-2 c κs = search needs
+number-requires-2 : tie.Need-number-requires-2
+number-requires-2 c κs = search needs
 
 bend-arms-requires : tie.Need-bend-arms-requires
 bend-arms-requires c κs = search needs
@@ -26,16 +26,16 @@ returns c =
       c .mark-or2 .ensures,
       c .before .mark-or .ensures,
       c .before .before .bend-arms .ensures,
-      c .before .before .before .wide2 .ensures .0,
-      c .before .before .before .before .wide .ensures .0,
+      c .before .before .before .number2 .ensures .0,
+      c .before .before .before .before .number .ensures .0,
     )
 
 pub bend-piece-spec : {M : Type 1} → statement M
 bend-piece-spec =
     tie.close
     (tie.spec
-    wide-requires
-    wide-requires-2
+    number-requires
+    number-requires-2
     bend-arms-requires
     mark-or-requires
     mark-or-requires-2

@@ -5,14 +5,14 @@ use borrow.Author.Tests.{eq-eqb, ne-eqb}
 use Rattle.path.proofs.orthogonal.leg_line.Statement.{statement}
 use Rattle.path.proofs.orthogonal.leg_line.Tie as tie
 
-wide-requires : tie.Need-wide-requires
-wide-requires c κs = search needs
+number-requires : tie.Need-number-requires
+number-requires c κs = search needs
 
-wide-requires-2 : tie.Need-wide-requires-2
-wide-requires-2 c κs = search needs
+number-requires-2 : tie.Need-number-requires-2
+number-requires-2 c κs = search needs
 
-wide-requires-3 : tie.Need-wide-requires-3
-wide-requires-3 c κs = search needs
+number-requires-3 : tie.Need-number-requires-3
+number-requires-3 c κs = search needs
 
 head-on-column-requires : tie.Need-head-on-column-requires
 head-on-column-requires c κs = search needs
@@ -31,19 +31,19 @@ returns c =
       c .line-of .ensures,
       c .before .head-on-column2 .ensures,
       c .before .before .head-on-column .ensures,
-      c .before .before .before .wide3 .ensures .0,
-      c .before .before .before .before .wide2 .ensures .0,
-      c .before .before .before .before .before .wide .ensures .0,
+      c .before .before .before .number3 .ensures .0,
+      c .before .before .before .before .number2 .ensures .0,
+      c .before .before .before .before .before .number .ensures .0,
     )
 
-wide-requires-4 : tie.Need-wide-requires-4
-wide-requires-4 c κs = search needs
+number-requires-4 : tie.Need-number-requires-4
+number-requires-4 c κs = search needs
 
-wide-requires-5 : tie.Need-wide-requires-5
-wide-requires-5 c κs = search needs
+number-requires-5 : tie.Need-number-requires-5
+number-requires-5 c κs = search needs
 
-wide-requires-6 : tie.Need-wide-requires-6
-wide-requires-6 c κs = search needs
+number-requires-6 : tie.Need-number-requires-6
+number-requires-6 c κs = search needs
 
 head-on-row-requires : tie.Need-head-on-row-requires
 head-on-row-requires c κs = search needs
@@ -63,9 +63,9 @@ returns-2 c =
       c .line-of2 .ensures,
       c .before .head-on-row2 .ensures,
       c .before .before .head-on-row .ensures,
-      c .before .before .before .wide6 .ensures .0,
-      c .before .before .before .before .wide5 .ensures .0,
-      c .before .before .before .before .before .wide4 .ensures .0,
+      c .before .before .before .number6 .ensures .0,
+      c .before .before .before .before .number5 .ensures .0,
+      c .before .before .before .before .before .number4 .ensures .0,
     )
 
 returns-3 : tie.Need-returns-3
@@ -76,16 +76,16 @@ pub leg-line-spec : {M : Type 1} → statement M
 leg-line-spec =
     tie.close
     (tie.spec
-    wide-requires
-    wide-requires-2
-    wide-requires-3
+    number-requires
+    number-requires-2
+    number-requires-3
     head-on-column-requires
     head-on-column-requires-2
     line-of-requires
     returns
-    wide-requires-4
-    wide-requires-5
-    wide-requires-6
+    number-requires-4
+    number-requires-5
+    number-requires-6
     head-on-row-requires
     head-on-row-requires-2
     line-of-requires-2

@@ -13,18 +13,18 @@ enum-told c = search needs
 returns : tie.Need-returns
 returns c = search needs
 
-wide-requires : tie.Need-wide-requires
-wide-requires c κs = search needs
+number-requires : tie.Need-number-requires
+number-requires c κs = search needs
 
-wide-requires-2 : tie.Need-wide-requires-2
-wide-requires-2 c κs = search needs
+number-requires-2 : tie.Need-number-requires-2
+number-requires-2 c κs = search needs
 
 returns-2 : tie.Need-returns-2
 returns-2 c =
     rw (
       c .before .before .before .before .before .mark .given .1,
-      ← c .before .before .before .wide .ensures .0,
-      ← c .before .wide2 .ensures .0,
+      ← c .before .before .before .number .ensures .0,
+      ← c .before .number2 .ensures .0,
       eq-eqb _ _ (c .before .before .if1 .taken),
       eq-eqb _ _ (c .if2 .taken),
       ← c .before .before .if1 .taken,
@@ -35,14 +35,14 @@ returns-3 : tie.Need-returns-3
 returns-3 c =
     rw (
       c .before .before .before .before .before .mark .given .1,
-      ← c .before .before .before .wide .ensures .0,
-      ← c .before .wide2 .ensures .0,
+      ← c .before .before .before .number .ensures .0,
+      ← c .before .number2 .ensures .0,
       eq-eqb _ _ (c .before .before .if1 .taken),
       ne-eqb _ _ (c .if2 .left),
     )
 
 returns-4 : tie.Need-returns-4
-returns-4 c = rw (c .before .before .before .mark .given .1, ← c .before .wide .ensures .0, ne-eqb _ _ (c .if1 .left))
+returns-4 c = rw (c .before .before .before .mark .given .1, ← c .before .number .ensures .0, ne-eqb _ _ (c .if1 .left))
 
 pub mark-or-spec : {M : Type 1} → statement M
 mark-or-spec =
@@ -51,8 +51,8 @@ mark-or-spec =
     enum-known-mark
     enum-told
     returns
-    wide-requires
-    wide-requires-2
+    number-requires
+    number-requires-2
     returns-2
     returns-3
     returns-4)

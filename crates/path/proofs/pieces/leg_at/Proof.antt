@@ -16,35 +16,35 @@ path-point-requires-2 c κs = search needs
 point-count-requires : tie.Need-point-count-requires
 point-count-requires c κs = search needs
 
-wide-requires : tie.Need-wide-requires
-wide-requires c κs = search needs
+number-requires : tie.Need-number-requires
+number-requires c κs = search needs
 
-wide-requires-2 : tie.Need-wide-requires-2
-wide-requires-2 c κs = search needs
+number-requires-2 : tie.Need-number-requires-2
+number-requires-2 c κs = search needs
 
-wide-requires-3 : tie.Need-wide-requires-3
-wide-requires-3 c κs = search needs
+number-requires-3 : tie.Need-number-requires-3
+number-requires-3 c κs = search needs
 
-wide-requires-4 : tie.Need-wide-requires-4
-wide-requires-4 c κs = search needs
+number-requires-4 : tie.Need-number-requires-4
+number-requires-4 c κs = search needs
 
 returns : tie.Need-returns
 unfolding legAt
 returns c = (
   rw (
-    c .wide4 .ensures .0,
-    c .before .wide3 .ensures .0,
-    c .before .before .wide2 .ensures .0,
-    c .before .before .before .wide .ensures .0,
+    c .number4 .ensures .0,
+    c .before .number3 .ensures .0,
+    c .before .before .number2 .ensures .0,
+    c .before .before .before .number .ensures .0,
     c .before .before .before .before .point-count .ensures,
     c .before .before .before .before .before .path-point2 .ensures,
     c .before .before .before .before .before .before .path-point .ensures,
   ),
   record {
-    x1 = c .before .before .before .wide .ensures .1;
-    y1 = c .before .before .wide2 .ensures .1;
-    x2 = c .before .wide3 .ensures .1;
-    y2 = c .wide4 .ensures .1;
+    x1 = c .before .before .before .number .ensures .1;
+    y1 = c .before .before .number2 .ensures .1;
+    x2 = c .before .number3 .ensures .1;
+    y2 = c .number4 .ensures .1;
   },
 )
 
@@ -56,8 +56,8 @@ leg-at-spec =
     add-path-point
     path-point-requires-2
     point-count-requires
-    wide-requires
-    wide-requires-2
-    wide-requires-3
-    wide-requires-4
+    number-requires
+    number-requires-2
+    number-requires-3
+    number-requires-4
     returns)

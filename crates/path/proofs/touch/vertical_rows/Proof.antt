@@ -4,17 +4,17 @@ use Rattle.path.proofs.Reached.{vertical-short, vertical-long}
 use Rattle.path.proofs.touch.vertical_rows.Statement.{statement}
 use Rattle.path.proofs.touch.vertical_rows.Tie as tie
 
-lower-requires : tie.Need-lower-requires
-lower-requires c κs = search needs
+min-requires : tie.Need-min-requires
+min-requires c κs = search needs
 
-upper-requires : tie.Need-upper-requires
-upper-requires c κs = search needs
+max-requires : tie.Need-max-requires
+max-requires c κs = search needs
 
 sub-if1 : tie.Need-sub-if1
 sub-if1 c = search needs
 
 returns : tie.Need-returns
-returns c = vertical-short _ _ _ _ (c .before .before .lower .ensures) (c .before .upper .ensures) (c .if1 .taken)
+returns c = vertical-short _ _ _ _ (c .before .before .min .ensures) (c .before .max .ensures) (c .if1 .taken)
 
 add-sheet-rows : tie.Need-add-sheet-rows
 add-sheet-rows c = search needs
@@ -26,14 +26,14 @@ sheet-rows-requires : tie.Need-sheet-rows-requires
 sheet-rows-requires c κs = search needs
 
 returns-2 : tie.Need-returns-2
-returns-2 c = vertical-long _ _ _ _ (c .before .before .before .lower .ensures) (c .before .before .upper .ensures) _ (c .sheet-rows .ensures)
+returns-2 c = vertical-long _ _ _ _ (c .before .before .before .min .ensures) (c .before .before .max .ensures) _ (c .sheet-rows .ensures)
 
 pub vertical-rows-spec : {M : Type 1} → statement M
 vertical-rows-spec =
     tie.close
     (tie.spec
-    lower-requires
-    upper-requires
+    min-requires
+    max-requires
     sub-if1
     returns
     add-sheet-rows

@@ -7,14 +7,14 @@ use Rattle.path.proofs.x_flow.direct.Tie as tie
 sign-requires : tie.Need-sign-requires
 sign-requires c κs = search needs
 
-wide-requires : tie.Need-wide-requires
-wide-requires c κs = search needs
+number-requires : tie.Need-number-requires
+number-requires c κs = search needs
 
-wide-requires-2 : tie.Need-wide-requires-2
-wide-requires-2 c κs = search needs
+number-requires-2 : tie.Need-number-requires-2
+number-requires-2 c κs = search needs
 
-wide-requires-3 : tie.Need-wide-requires-3
-wide-requires-3 c κs = search needs
+number-requires-3 : tie.Need-number-requires-3
+number-requires-3 c κs = search needs
 
 target-marker-requires : tie.Need-target-marker-requires
 target-marker-requires c κs = search needs
@@ -48,9 +48,9 @@ returns c =
       c .before .before .before .before .end-head .ensures,
       c .before .before .before .before .before .with-flow .ensures,
       c .before .before .before .before .before .before .target-marker .ensures,
-      c .before .before .before .before .before .before .before .wide3 .ensures .0,
-      c .before .before .before .before .before .before .before .before .wide2 .ensures .0,
-      c .before .before .before .before .before .before .before .before .before .wide .ensures .0,
+      c .before .before .before .before .before .before .before .number3 .ensures .0,
+      c .before .before .before .before .before .before .before .before .number2 .ensures .0,
+      c .before .before .before .before .before .before .before .before .before .number .ensures .0,
       c .before .before .before .before .before .before .before .before .before .before .sign .ensures,
     )
 
@@ -59,9 +59,9 @@ direct-spec =
     tie.close
     (tie.spec
     sign-requires
-    wide-requires
-    wide-requires-2
-    wide-requires-3
+    number-requires
+    number-requires-2
+    number-requires-3
     target-marker-requires
     with-flow-requires
     end-head-requires

@@ -8,20 +8,20 @@ use Rattle.path.proofs.x_flow.side.Tie as tie
 sign-requires : tie.Need-sign-requires
 sign-requires c κs = search needs
 
-wide-requires : tie.Need-wide-requires
-wide-requires c κs = search needs
+number-requires : tie.Need-number-requires
+number-requires c κs = search needs
 
-wide-requires-2 : tie.Need-wide-requires-2
-wide-requires-2 c κs = search needs
+number-requires-2 : tie.Need-number-requires-2
+number-requires-2 c κs = search needs
 
-wide-requires-3 : tie.Need-wide-requires-3
-wide-requires-3 c κs = search needs
+number-requires-3 : tie.Need-number-requires-3
+number-requires-3 c κs = search needs
 
-wide-requires-4 : tie.Need-wide-requires-4
-wide-requires-4 c κs = search needs
+number-requires-4 : tie.Need-number-requires-4
+number-requires-4 c κs = search needs
 
-wide-requires-5 : tie.Need-wide-requires-5
-wide-requires-5 c κs = search needs
+number-requires-5 : tie.Need-number-requires-5
+number-requires-5 c κs = search needs
 
 corner-bend-requires : tie.Need-corner-bend-requires
 corner-bend-requires c κs = search needs
@@ -59,8 +59,8 @@ cross-last-requires-2 c κs = search needs
 target-marker-requires : tie.Need-target-marker-requires
 target-marker-requires c κs = search needs
 
-wide-requires-6 : tie.Need-wide-requires-6
-wide-requires-6 c κs = search needs
+number-requires-6 : tie.Need-number-requires-6
+number-requires-6 c κs = search needs
 
 tail-requires : tie.Need-tail-requires
 tail-requires c κs = search needs
@@ -81,9 +81,9 @@ returns-2 c =
     simp (
       c .before .match .keys2,
       c .cross-line .ensures,
-      c .before .before .before .wide4 .ensures .0,
-      c .before .before .before .before .wide3 .ensures .0,
-      c .before .before .before .before .before .before .wide .ensures .0,
+      c .before .before .before .number4 .ensures .0,
+      c .before .before .before .before .number3 .ensures .0,
+      c .before .before .before .before .before .before .number .ensures .0,
     )
 
 returns-3 : tie.Need-returns-3
@@ -94,9 +94,9 @@ returns-3 c =
       c .cross-first .ensures,
       c .before .corner-arrow .ensures,
       c .before .before .corner-bend2 .ensures .0,
-      c .before .before .before .before .before .wide4 .ensures .0,
-      c .before .before .before .before .before .before .wide3 .ensures .0,
-      c .before .before .before .before .before .before .before .before .wide .ensures .0,
+      c .before .before .before .before .before .number4 .ensures .0,
+      c .before .before .before .before .before .before .number3 .ensures .0,
+      c .before .before .before .before .before .before .before .before .number .ensures .0,
       c .before .before .before .before .before .before .before .before .before .sign .ensures,
     )
 
@@ -106,9 +106,9 @@ returns-4 c =
     simp (
       c .before .match .keys4,
       c .cross-last .ensures,
-      c .before .before .before .wide4 .ensures .0,
-      c .before .before .before .before .wide3 .ensures .0,
-      c .before .before .before .before .before .before .wide .ensures .0,
+      c .before .before .before .number4 .ensures .0,
+      c .before .before .before .before .number3 .ensures .0,
+      c .before .before .before .before .before .before .number .ensures .0,
       c .before .before .before .before .before .before .before .sign .ensures,
     )
 
@@ -118,9 +118,9 @@ returns-5 c =
     simp (
       c .before .match .keys5,
       c .line-of .ensures,
-      c .before .before .wide5 .ensures .0,
-      c .before .before .before .wide4 .ensures .0,
-      c .before .before .before .before .wide3 .ensures .0,
+      c .before .before .number5 .ensures .0,
+      c .before .before .before .number4 .ensures .0,
+      c .before .before .before .before .number3 .ensures .0,
     )
 
 returns-6 : tie.Need-returns-6
@@ -129,9 +129,9 @@ returns-6 c =
     simp (
       c .before .match .keys6,
       c .cross-line2 .ensures,
-      c .before .before .wide5 .ensures .0,
-      c .before .before .before .before .wide3 .ensures .0,
-      c .before .before .before .before .before .wide2 .ensures .0,
+      c .before .before .number5 .ensures .0,
+      c .before .before .before .before .number3 .ensures .0,
+      c .before .before .before .before .before .number2 .ensures .0,
     )
 
 returns-7 : tie.Need-returns-7
@@ -140,9 +140,9 @@ returns-7 c =
     simp (
       c .before .match .keys7,
       c .cross-first2 .ensures,
-      c .before .before .wide5 .ensures .0,
-      c .before .before .before .before .wide3 .ensures .0,
-      c .before .before .before .before .before .wide2 .ensures .0,
+      c .before .before .number5 .ensures .0,
+      c .before .before .before .before .number3 .ensures .0,
+      c .before .before .before .before .before .number2 .ensures .0,
       c .before .before .before .before .before .before .before .sign .ensures,
     )
 
@@ -152,9 +152,9 @@ returns-8 c =
     simp (
       c .before .match .keys8,
       c .cross-last2 .ensures,
-      c .before .before .wide5 .ensures .0,
-      c .before .before .before .before .wide3 .ensures .0,
-      c .before .before .before .before .before .wide2 .ensures .0,
+      c .before .before .number5 .ensures .0,
+      c .before .before .before .before .number3 .ensures .0,
+      c .before .before .before .before .before .number2 .ensures .0,
       c .before .before .before .before .before .before .before .sign .ensures,
     )
 
@@ -171,10 +171,10 @@ returns-9 c =
       ne-eqb _ _ (c .before .before .before .match .rest .0 .1),
       ne-eqb _ _ (c .before .before .before .match .rest .1),
       c .tail .ensures,
-      c .before .wide6 .ensures .0,
+      c .before .number6 .ensures .0,
       c .before .before .target-marker .ensures,
-      c .before .before .before .before .wide5 .ensures .0,
-      c .before .before .before .before .before .before .before .wide2 .ensures .0,
+      c .before .before .before .before .number5 .ensures .0,
+      c .before .before .before .before .before .before .before .number2 .ensures .0,
       c .before .before .before .before .before .before .before .before .before .sign .ensures,
     )
 
@@ -183,11 +183,11 @@ side-spec =
     tie.close
     (tie.spec
     sign-requires
-    wide-requires
-    wide-requires-2
-    wide-requires-3
-    wide-requires-4
-    wide-requires-5
+    number-requires
+    number-requires-2
+    number-requires-3
+    number-requires-4
+    number-requires-5
     corner-bend-requires
     trunk-requires
     cross-line-requires
@@ -200,7 +200,7 @@ side-spec =
     cross-first-requires-2
     cross-last-requires-2
     target-marker-requires
-    wide-requires-6
+    number-requires-6
     tail-requires
     returns
     returns-2

@@ -5,26 +5,26 @@ use Rattle.path.specs.YFlow.{crossRunY}
 use Rattle.path.proofs.y_flow.cross_run.Statement.{statement}
 use Rattle.path.proofs.y_flow.cross_run.Tie as tie
 
-lower-requires : tie.Need-lower-requires
-lower-requires c κs = search needs
+min-requires : tie.Need-min-requires
+min-requires c κs = search needs
 
 add-first : tie.Need-add-first
 add-first c = search needs
 
-upper-requires : tie.Need-upper-requires
-upper-requires c κs = search needs
+max-requires : tie.Need-max-requires
+max-requires c κs = search needs
 
 sub-t9 : tie.Need-sub-t9
 sub-t9 c = search needs
 
 returns : tie.Need-returns
 unfolding crossRunY
-returns c = rw (← c .before .before .lower .ensures, ← c .before .upper .ensures, lt-ltb _ _ (c .if1 .taken))
+returns c = rw (← c .before .before .min .ensures, ← c .before .max .ensures, lt-ltb _ _ (c .if1 .taken))
 
 returns-2 : tie.Need-returns-2
 unfolding crossRunY
-returns-2 c = rw (← c .before .before .lower .ensures, ← c .before .upper .ensures, le-ltb _ _ (c .if1 .left))
+returns-2 c = rw (← c .before .before .min .ensures, ← c .before .max .ensures, le-ltb _ _ (c .if1 .left))
 
 pub cross-run-spec : {M : Type 1} → statement M
 cross-run-spec =
-    tie.close (tie.spec lower-requires add-first upper-requires sub-t9 returns returns-2)
+    tie.close (tie.spec min-requires add-first max-requires sub-t9 returns returns-2)

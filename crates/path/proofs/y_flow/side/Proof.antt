@@ -8,20 +8,20 @@ use Rattle.path.proofs.y_flow.side.Tie as tie
 sign-requires : tie.Need-sign-requires
 sign-requires c κs = search needs
 
-wide-requires : tie.Need-wide-requires
-wide-requires c κs = search needs
+number-requires : tie.Need-number-requires
+number-requires c κs = search needs
 
-wide-requires-2 : tie.Need-wide-requires-2
-wide-requires-2 c κs = search needs
+number-requires-2 : tie.Need-number-requires-2
+number-requires-2 c κs = search needs
 
-wide-requires-3 : tie.Need-wide-requires-3
-wide-requires-3 c κs = search needs
+number-requires-3 : tie.Need-number-requires-3
+number-requires-3 c κs = search needs
 
-wide-requires-4 : tie.Need-wide-requires-4
-wide-requires-4 c κs = search needs
+number-requires-4 : tie.Need-number-requires-4
+number-requires-4 c κs = search needs
 
-wide-requires-5 : tie.Need-wide-requires-5
-wide-requires-5 c κs = search needs
+number-requires-5 : tie.Need-number-requires-5
+number-requires-5 c κs = search needs
 
 cross-run-requires : tie.Need-cross-run-requires
 cross-run-requires c κs = search needs
@@ -47,8 +47,8 @@ cross-last-requires-2 c κs = search needs
 target-marker-requires : tie.Need-target-marker-requires
 target-marker-requires c κs = search needs
 
-wide-requires-6 : tie.Need-wide-requires-6
-wide-requires-6 c κs = search needs
+number-requires-6 : tie.Need-number-requires-6
+number-requires-6 c κs = search needs
 
 tail-requires : tie.Need-tail-requires
 tail-requires c κs = search needs
@@ -59,9 +59,9 @@ returns c =
     simp (
       c .before .match .keys1,
       c .cross-run .ensures,
-      c .before .before .before .wide4 .ensures .0,
-      c .before .before .before .before .wide3 .ensures .0,
-      c .before .before .before .before .before .before .wide .ensures .0,
+      c .before .before .before .number4 .ensures .0,
+      c .before .before .before .before .number3 .ensures .0,
+      c .before .before .before .before .before .before .number .ensures .0,
     )
 
 returns-2 : tie.Need-returns-2
@@ -70,9 +70,9 @@ returns-2 c =
     simp (
       c .before .match .keys2,
       c .cross-first .ensures,
-      c .before .before .before .wide4 .ensures .0,
-      c .before .before .before .before .wide3 .ensures .0,
-      c .before .before .before .before .before .before .wide .ensures .0,
+      c .before .before .before .number4 .ensures .0,
+      c .before .before .before .before .number3 .ensures .0,
+      c .before .before .before .before .before .before .number .ensures .0,
       c .before .before .before .before .before .before .before .sign .ensures,
     )
 
@@ -82,9 +82,9 @@ returns-3 c =
     simp (
       c .before .match .keys3,
       c .cross-last .ensures,
-      c .before .before .before .wide4 .ensures .0,
-      c .before .before .before .before .wide3 .ensures .0,
-      c .before .before .before .before .before .before .wide .ensures .0,
+      c .before .before .before .number4 .ensures .0,
+      c .before .before .before .before .number3 .ensures .0,
+      c .before .before .before .before .before .before .number .ensures .0,
       c .before .before .before .before .before .before .before .sign .ensures,
     )
 
@@ -94,9 +94,9 @@ returns-4 c =
     simp (
       c .before .match .keys4,
       c .line-of .ensures,
-      c .before .before .wide5 .ensures .0,
-      c .before .before .before .wide4 .ensures .0,
-      c .before .before .before .before .wide3 .ensures .0,
+      c .before .before .number5 .ensures .0,
+      c .before .before .before .number4 .ensures .0,
+      c .before .before .before .before .number3 .ensures .0,
     )
 
 returns-5 : tie.Need-returns-5
@@ -105,9 +105,9 @@ returns-5 c =
     simp (
       c .before .match .keys5,
       c .cross-run2 .ensures,
-      c .before .before .wide5 .ensures .0,
-      c .before .before .before .before .wide3 .ensures .0,
-      c .before .before .before .before .before .wide2 .ensures .0,
+      c .before .before .number5 .ensures .0,
+      c .before .before .before .before .number3 .ensures .0,
+      c .before .before .before .before .before .number2 .ensures .0,
     )
 
 returns-6 : tie.Need-returns-6
@@ -116,9 +116,9 @@ returns-6 c =
     simp (
       c .before .match .keys6,
       c .cross-first2 .ensures,
-      c .before .before .wide5 .ensures .0,
-      c .before .before .before .before .wide3 .ensures .0,
-      c .before .before .before .before .before .wide2 .ensures .0,
+      c .before .before .number5 .ensures .0,
+      c .before .before .before .before .number3 .ensures .0,
+      c .before .before .before .before .before .number2 .ensures .0,
       c .before .before .before .before .before .before .before .sign .ensures,
     )
 
@@ -128,9 +128,9 @@ returns-7 c =
     simp (
       c .before .match .keys7,
       c .cross-last2 .ensures,
-      c .before .before .wide5 .ensures .0,
-      c .before .before .before .before .wide3 .ensures .0,
-      c .before .before .before .before .before .wide2 .ensures .0,
+      c .before .before .number5 .ensures .0,
+      c .before .before .before .before .number3 .ensures .0,
+      c .before .before .before .before .before .number2 .ensures .0,
       c .before .before .before .before .before .before .before .sign .ensures,
     )
 
@@ -146,10 +146,10 @@ returns-8 c =
       ne-eqb _ _ (c .before .before .before .match .rest .0 .1),
       ne-eqb _ _ (c .before .before .before .match .rest .1),
       c .tail .ensures,
-      c .before .wide6 .ensures .0,
+      c .before .number6 .ensures .0,
       c .before .before .target-marker .ensures,
-      c .before .before .before .before .wide5 .ensures .0,
-      c .before .before .before .before .before .before .before .wide2 .ensures .0,
+      c .before .before .before .before .number5 .ensures .0,
+      c .before .before .before .before .before .before .before .number2 .ensures .0,
       c .before .before .before .before .before .before .before .before .before .sign .ensures,
     )
 
@@ -158,11 +158,11 @@ side-spec =
     tie.close
     (tie.spec
     sign-requires
-    wide-requires
-    wide-requires-2
-    wide-requires-3
-    wide-requires-4
-    wide-requires-5
+    number-requires
+    number-requires-2
+    number-requires-3
+    number-requires-4
+    number-requires-5
     cross-run-requires
     cross-first-requires
     cross-last-requires
@@ -171,7 +171,7 @@ side-spec =
     cross-first-requires-2
     cross-last-requires-2
     target-marker-requires
-    wide-requires-6
+    number-requires-6
     tail-requires
     returns
     returns-2

@@ -16,23 +16,23 @@ returns c = rw (c .before .before .if1 .taken, c .enum-told .given .1)
 returns-2 : tie.Need-returns-2
 returns-2 c = rw (c .before .before .before .if1 .taken, c .before .touched .given .1)
 
-sub-wide : tie.Need-sub-wide
-sub-wide c = search needs
+sub-number : tie.Need-sub-number
+sub-number c = search needs
 
-wide-requires : tie.Need-wide-requires
-wide-requires c κs = search needs
+number-requires : tie.Need-number-requires
+number-requires c κs = search needs
 
 first-row-requires : tie.Need-first-row-requires
 first-row-requires c κs = search needs
 
-wide-requires-2 : tie.Need-wide-requires-2
-wide-requires-2 c κs = search needs
+number-requires-2 : tie.Need-number-requires-2
+number-requires-2 c κs = search needs
 
 last-row-requires : tie.Need-last-row-requires
 last-row-requires c κs = search needs
 
-wide-requires-3 : tie.Need-wide-requires-3
-wide-requires-3 c κs = search needs
+number-requires-3 : tie.Need-number-requires-3
+number-requires-3 c κs = search needs
 
 within-requires : tie.Need-within-requires
 within-requires c κs = search needs
@@ -40,8 +40,8 @@ within-requires c κs = search needs
 returns-3 : tie.Need-returns-3
 returns-3 c =
     let b = c .before .before .before .before in
-    lacks-some _ _ _ _ _ _ _ _ _ _ (b .before .before .if1 .left) (b .before .wide .ensures .0) (b .first-row .ensures)
-    (c .before .before .before .wide2 .ensures .0) (c .before .before .last-row .ensures) (c .before .wide3 .ensures .0)
+    lacks-some _ _ _ _ _ _ _ _ _ _ (b .before .before .if1 .left) (b .before .number .ensures .0) (b .first-row .ensures)
+    (c .before .before .before .number2 .ensures .0) (c .before .before .last-row .ensures) (c .before .number3 .ensures .0)
     (c .within .ensures)
 
 pub lacks-spec : {M : Type 1} → statement M
@@ -52,11 +52,11 @@ lacks-spec =
     enum-told
     returns
     returns-2
-    sub-wide
-    wide-requires
+    sub-number
+    number-requires
     first-row-requires
-    wide-requires-2
+    number-requires-2
     last-row-requires
-    wide-requires-3
+    number-requires-3
     within-requires
     returns-3)

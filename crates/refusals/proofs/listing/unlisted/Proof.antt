@@ -22,8 +22,8 @@ thing-table-requires c κs = search needs
 kind-number-requires : tie.Need-kind-number-requires Inv-loop μ-loop
 kind-number-requires c κs = search needs
 
-wide-requires : tie.Need-wide-requires Inv-loop μ-loop
-wide-requires c κs = search needs
+number-requires : tie.Need-number-requires Inv-loop μ-loop
+number-requires c κs = search needs
 
 loop-holds : tie.Need-loop-holds Inv-loop μ-loop
 loop-holds c = all-things _ _ _ _ _ (c .before .before .thing-table .ensures .0)
@@ -54,7 +54,7 @@ returns c =
     let a = w .before .before .before .before .before .args in
     let t = w .before .before .thing-table .result in
     first-hit (lackAt (a .slots .now) (a .kind) (a .image .now) (a .ts) t) (l .k) _ _ _ (b .before .before .before .loop-test .taken) (l .inv)
-    (lack-hit (a .slots .now) (a .kind) (a .image .now) (a .ts) t (l .k) _ _ _ _ (w .wide .ensures .0 ∙ w .before .kind-number .ensures .0)
+    (lack-hit (a .slots .now) (a .kind) (a .image .now) (a .ts) t (l .k) _ _ _ _ (w .number .ensures .0 ∙ w .before .kind-number .ensures .0)
     (b .before .before .slot-word .ensures) (b .before .touched-by .ensures) (b .lacks .ensures) _ (c .before .if1 .taken)
     (c .at .ensures .0))
 
@@ -72,7 +72,7 @@ loop-again c =
     let a = w .before .before .before .before .before .args in
     let t = w .before .before .thing-table .result in
     first-again (lackAt (a .slots .now) (a .kind) (a .image .now) (a .ts) t) (l .k) _ _ (b .before .before .before .loop-test .taken) (l .inv)
-    (lack-none (a .slots .now) (a .kind) (a .image .now) (a .ts) t (l .k) _ _ _ _ (w .wide .ensures .0 ∙ w .before .kind-number .ensures .0)
+    (lack-none (a .slots .now) (a .kind) (a .image .now) (a .ts) t (l .k) _ _ _ _ (w .number .ensures .0 ∙ w .before .kind-number .ensures .0)
     (b .before .before .slot-word .ensures) (b .before .touched-by .ensures) (b .lacks .ensures) (c .if1 .left))
 
 returns-2 : tie.Need-returns-2 Inv-loop μ-loop
@@ -86,7 +86,7 @@ unlisted-spec =
     μ-loop
     thing-table-requires
     kind-number-requires
-    wide-requires
+    number-requires
     loop-holds
     mul-slot-word
     add-slot-word

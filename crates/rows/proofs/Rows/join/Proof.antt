@@ -18,11 +18,11 @@ enum-told-2 c = search needs
 enum-known-other : tie.Need-enum-known-other
 enum-known-other c = search needs
 
-lower-requires : tie.Need-lower-requires
-lower-requires c κs = search needs
+min-requires : tie.Need-min-requires
+min-requires c κs = search needs
 
-upper-requires : tie.Need-upper-requires
-upper-requires c κs = search needs
+max-requires : tie.Need-max-requires
+max-requires c κs = search needs
 
 returns-2 : tie.Need-returns-2
 returns-2 c = rw (c .before .before .before .self .given .1, c .enum-told2 .given .1)
@@ -32,8 +32,8 @@ returns-3 c =
     rw (
       c .before .before .before .before .before .before .self .given .1,
       c .before .before .before .other .given .1,
-      c .before .lower .ensures,
-      c .upper .ensures,
+      c .before .min .ensures,
+      c .max .ensures,
     )
 
 pub join-spec : {M : Type 1} → statement M
@@ -45,7 +45,7 @@ join-spec =
     returns
     enum-told-2
     enum-known-other
-    lower-requires
-    upper-requires
+    min-requires
+    max-requires
     returns-2
     returns-3)
