@@ -9,7 +9,8 @@ use Rattle.image.specs.declared.SelfLoop.the-variants as loop
 use Rattle.image.specs.declared.Node.{Node}
 use Rattle.rows.specs.declared.Rows.{Rows}
 use Rattle.rows.specs.declared.Rows.the-variants as rows
-use Rattle.rows.specs.SheetRows.{sheetRows, joinRows}
+use Rattle.rows.specs.SheetRows.{sheetRows}
+use Rattle.rows.specs.Window.{joinRows}
 use Rattle.frame.specs.declared.Look.{Look}
 use Rattle.frame.specs.declared.Look.the-variants.{Hidden, Dummy, Box, Simple, Blank}
 

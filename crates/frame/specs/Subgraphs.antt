@@ -12,7 +12,8 @@ use Rattle.image.specs.declared.LabelPosition.the-variants.{InsideTop, InsideBo
 use Rattle.image.specs.declared.Subgraph.{Subgraph}
 use Rattle.rows.specs.declared.Rows.{Rows}
 use Rattle.rows.specs.declared.Rows.the-variants as rows
-use Rattle.rows.specs.SheetRows.{sheetRows, joinRows}
+use Rattle.rows.specs.SheetRows.{sheetRows}
+use Rattle.rows.specs.Window.{joinRows}
 use Rattle.frame.specs.Nodes.{boxRows}
 
 -- "Border if width and height ≥ 2", and 0 is no border

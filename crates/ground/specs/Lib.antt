@@ -1,2 +1,4 @@
--- What every layer shares.
+-- What every layer shares: going over a list, and the first that breaks a rule.
+pub mod Each
 pub mod First
+pub mod Judged

@@ -8,7 +8,9 @@ use mathlib.Core.List.{List}
 use Rattle.ground.proofs.Order.{by-three}
 use Rattle.rows.specs.declared.Rows.{Rows}
 use Rattle.rows.specs.declared.Rows.the-variants as rows
-use Rattle.rows.specs.SheetRows.{sheetRows, joinRows, rowsWithin, Whole}
+use Rattle.rows.specs.SheetRows.{sheetRows, Whole}
+use Rattle.rows.specs.Window.{joinRows}
+use Rattle.rows.specs.Computed.{rowsWithin}
 use Rattle.rows.proofs.Theorems.{sheet-rows-whole, join-whole, join-within, cond-whole}
 use Rattle.image.specs.declared.Edge.{Edge}
 use Rattle.path.specs.declared.Piece.{Piece}

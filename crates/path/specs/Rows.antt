@@ -10,7 +10,8 @@ use Rattle.path.specs.Pieces.{slotCount, pieceAt}
 use Rattle.path.specs.declared.Reach.{Reach}
 use Rattle.rows.specs.declared.Rows.{Rows}
 use Rattle.rows.specs.declared.Rows.the-variants as rows
-use Rattle.rows.specs.SheetRows.{sheetRows, joinRows}
+use Rattle.rows.specs.SheetRows.{sheetRows}
+use Rattle.rows.specs.Window.{joinRows}
 use Rattle.path.specs.declared.Piece.{Piece}
 use Rattle.path.specs.declared.Piece.the-variants.{Nothing, Vertical, Horizontal, Run, Stroke, Mark}
 

@@ -14,7 +14,9 @@ use Rattle.ground.proofs.Order.{by-order, by-three}
 use Rattle.ground.proofs.First.{first-none, none-first, or-none-both}
 use Rattle.rows.specs.declared.Rows.{Rows}
 use Rattle.rows.specs.declared.Rows.the-variants as rows
-use Rattle.rows.specs.SheetRows.{sheetRows, joinRows, rowsWithin, InRows, Whole}
+use Rattle.rows.specs.SheetRows.{sheetRows, InRows, Whole}
+use Rattle.rows.specs.Window.{joinRows}
+use Rattle.rows.specs.Computed.{rowsWithin}
 use Rattle.rows.proofs.Theorems.{sheet-rows-whole, join-within, within-in, in-within, cond-whole}
 use Rattle.image.specs.declared.ElementKind.{ElementKind}
 use Rattle.image.specs.declared.ElementKind.the-variants as kind

@@ -31,7 +31,7 @@ use Rattle.image.proofs.Path.{the-type}
 use Rattle.image.proofs.Laws.{product-small}
 use Rattle.image.proofs.Theorems.{span-length}
 use Rattle.rows.specs.declared.Rows.{Rows}
-use Rattle.rows.specs.SheetRows.{rowsWithin}
+use Rattle.rows.specs.Computed.{rowsWithin}
 use Rattle.frame.specs.Nodes.{nodeRows}
 use Rattle.frame.specs.Subgraphs.{subgraphRows}
 use Rattle.path.specs.declared.Reach.{Reach}

@@ -9,7 +9,7 @@ use Rattle.ground.specs.declared.Found.{Found}
 use Rattle.ground.specs.declared.Found.the-variants as found
 use Rattle.rows.specs.declared.Rows.{Rows}
 use Rattle.rows.specs.declared.Rows.the-variants as rows
-use Rattle.rows.specs.SheetRows.{rowsWithin}
+use Rattle.rows.specs.Computed.{rowsWithin}
 use Rattle.image.specs.declared.ElementKind.{ElementKind}
 use Rattle.image.specs.declared.ElementKind.the-variants as kind
 use Rattle.image.specs.declared.Table.{Table}

@@ -1,2 +1,4 @@
--- What is shown of rows: the theorems.
+-- What is shown of rows and windows: the theorems.
+pub mod Windows
+pub mod Spots
 pub mod Theorems

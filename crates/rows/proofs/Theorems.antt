@@ -9,7 +9,9 @@ use borrow.Author.Tests.{le-leb, lt-leb, lt-ltb, le-ltb, leb-true}
 use Rattle.ground.proofs.Order.{by-order}
 use Rattle.rows.specs.declared.Rows.{Rows}
 use Rattle.rows.specs.declared.Rows.the-variants.{None, From}
-use Rattle.rows.specs.SheetRows.{sheetRows, joinRows, rowsWithin, InRows, Whole}
+use Rattle.rows.specs.SheetRows.{sheetRows, InRows, Whole}
+use Rattle.rows.specs.Window.{joinRows}
+use Rattle.rows.specs.Computed.{rowsWithin}
 
 -- The rows of the sheet among those from a to b are those from a to b that the sheet has.
 pub sheet-rows-in : (h a b y : ℕ) → InRows y (sheetRows h a b) ↔ ((a ≤ y) × (y ≤ b) × (y < h))

@@ -9,17 +9,6 @@ use Rattle.rows.specs.declared.Rows.the-variants.{None, From}
 unfoldable pub sheetRows : ℕ → ℕ → ℕ → Rows
 sheetRows height a b = cond (leb a b && ltb a height) (From a (min b (height - 1))) None
 
--- from the least row of both to the greatest
-abbrev pub joinRows : Rows → Rows → Rows
-joinRows None r = r
-joinRows (From a b) None = From a b
-joinRows (From a b) (From c d) = From (min a c) (max b d)
-
--- all rows lie from low to high
-abbrev pub rowsWithin : ℕ → ℕ → Rows → Bool
-rowsWithin low high None = true
-rowsWithin low high (From a b) = leb low a && leb b high
-
 -- a row is among them
 abbrev pub InRows : ℕ → Rows → Type 0
 InRows y None = ⊥

@@ -1,10 +1,65 @@
-// Rows of the sheet, from a first to a last, or none.
+// A window of rows by value, and rows of it, from a first to a last, or none.
 ghost use mathlib.Core.Path.{_≡_};
-ghost use Rattle.rows.specs.SheetRows.{sheetRows, joinRows, rowsWithin};
+ghost use Rattle.rows.specs.Window.{joinRows, inWindow};
+ghost use Rattle.rows.specs.Computed.{windowRows, rowsWithin};
+ghost use Rattle.rows.specs.SheetRows.{sheetRows};
 
+// Rows of the sheet, side by side: all of them, or a band.
+pub struct Window {
+    // how many columns each row has
+    pub width: usize,
+    // the number of its first row
+    pub first: usize,
+    // how many rows it has
+    pub rows: usize,
+}
+
+// Rows of a window.
 pub enum Rows {
+    // no row
     None,
-    From { first: usize, last: usize },
+    // from a first row to a last
+    From {
+        // the first
+        first: usize,
+        // the last, not below the first
+        last: usize,
+    },
+}
+
+impl Window {
+    // The rows from a to b that the window has. No sum is made that the window or b does not bound, so that every number will do.
+    pub fn clip(self, a: usize, b: usize) -> Rows
+        ensures { λ r. ⌜ r ≡ windowRows self a b ⌝ }
+    {
+        let top = self.first;
+        let rows = self.rows;
+        let from = ground::max(a, top);
+        if b < from {
+            return Rows::None;
+        }
+        if rows <= from - top {
+            return Rows::None;
+        }
+        if b - top < rows {
+            return Rows::From {
+                first: from,
+                last: b,
+            };
+        }
+        Rows::From {
+            first: from,
+            last: top + (rows - 1),
+        }
+    }
+
+    // Whether a row is the window's.
+    pub fn has(self, y: usize) -> bool
+        ensures { λ r. ⌜ r ≡ inWindow self y ⌝ }
+    {
+        let top = self.first;
+        if top <= y { y - top < self.rows } else { false }
+    }
 }
 
 // The rows of the sheet among those from a to b.
