@@ -1,15 +1,23 @@
--- What the definitions of width and fitting amount to: the bisection finds the range that holds a value, and the fitting part is the longest prefix.
+-- What the definitions of width, of the range rule and of fitting amount to: the bisection finds the range that holds a value, no range is broken exactly
+-- where each keeps the rule, and the fitting part is the longest prefix.
 use native.Mathlib.Omega.{arith}
 use Prim.Native.Nat.{ℕ, zero, suc, _+_, _-_, _*_, _≤_, _<_, zero-le, suc-le-suc}
+use mathlib.Core.Bool.{Bool, true, false, _&&_, _||_, true≢false}
+use mathlib.Core.Logic.{_↔_}
 use mathlib.Core.Path.{_≡_, refl, sym, ap, _∙_}
 use mathlib.Core.List.{List, [], _∷_}
 use lib.Dec.{eqb, ltb, leb}
 use lib.ListN.{length, getD, take, length-take}
 use lib.Seq.{length-take-le}
-use borrow.Author.Tests.{lt-ltb, le-ltb, le-leb, lt-leb}
+use borrow.Author.Tests.{ltb-false, leb-false, lt-ltb, le-ltb, le-leb, lt-leb}
 use Rattle.glyph.specs.Width.{InOrder, bisect, middle, widthOf, firstOf, lastOf, rangeWidth, rangeCount}
+use Rattle.glyph.specs.Ranges.{holds, holdsFixed, notAbove, rangeBroken, brokenAt, firstBroken, isNone, rangesGood}
+use Rattle.glyph.specs.Ranges.{Fixed, space, quote, opening, closing, RangeGood, WidthsRight}
 use Rattle.glyph.specs.Fitting.{columns, fitCount, fitting, LongestPrefix}
 use Rattle.glyph.proofs.Laws.{by-range}
+use Rattle.ground.specs.declared.Found.{Found}
+use Rattle.ground.specs.declared.Found.the-variants as found
+use Rattle.ground.proofs.First.{found-none, first-none, none-first}
 use Rattle.ground.proofs.Order.{by-order, by-three, cond-bound}
 
 range-bound : (t : List ℕ) (k : ℕ) → rangeWidth t k ≤ 2
@@ -73,6 +81,94 @@ bisect-held (suc f) t v low high k o e b l m p q =
 pub width-held : (t : List ℕ) (v k : ℕ) → InOrder t → k < rangeCount t → firstOf t k ≤ v → v ≤ lastOf t k → widthOf t v ≡ rangeWidth t k
 unfolding widthOf
 width-held t v k o h p q = bisect-held (rangeCount t) t v 0 (rangeCount t) k o (omega arith) (omega arith) (omega arith) h p q
+
+-- of two tests neither holds exactly where each does not
+neither-iff : (a b : Bool) → (a || b ≡ false) ↔ ((a ≡ false) × (b ≡ false))
+neither-iff true b = (λ h. absurd (true≢false h), λ h. h .0)
+neither-iff false b = (λ h. (refl, h), λ h. h .1)
+
+-- a range does not hold a value exactly where the value is not from its first to its last
+outside-iff : (first last value : ℕ) → (holds first last value ≡ false) ↔ (first ≤ value → value ≤ last → ⊥)
+outside-iff first last value = (
+  λ h p q. true≢false (sym (simp (le-leb _ _ p, le-leb _ _ q)) ∙ h),
+  λ h. by-order value first (λ p. simp (lt-leb _ _ p)) (λ p. by-order last value (λ q. simp (le-leb _ _ p, lt-leb _ _ q)) (λ q. absurd (h p q))),
+)
+
+module _ (first last : ℕ) where
+  abbrev free : ℕ → Type 0
+  free value = holds first last value ≡ false
+
+  four-free : free 0x20 → free 0x22 → free 0x5B → free 0x5D → (value : ℕ) → Fixed value → free value
+  four-free a b c d value space = a
+  four-free a b c d value quote = b
+  four-free a b c d value opening = c
+  four-free a b c d value closing = d
+
+  fixed-iff : (holdsFixed first last ≡ false) ↔ ((value : ℕ) → Fixed value → free value)
+  unfolding holdsFixed
+  fixed-iff =
+      let third = neither-iff (holds first last 0x20 || holds first last 0x22 || holds first last 0x5B) (holds first last 0x5D) in
+      let second = neither-iff (holds first last 0x20 || holds first last 0x22) (holds first last 0x5B) in
+      let one = neither-iff (holds first last 0x20) (holds first last 0x22) in (
+        (λ h. let a = third .0 h in let b = second .0 (a .0) in let c = one .0 (b .0) in four-free (c .0) (c .1) (b .1) (a .1)),
+        (λ h. third .1 (second .1 (one .1 (h 0x20 space, h 0x22 quote), h 0x5B opening), h 0x5D closing)),
+      )
+
+above-iff : (k first before : ℕ) → (ltb 0 k && leb first before ≡ false) ↔ (0 < k → before < first)
+above-iff k first before = (
+  λ h p. leb-false first before (rw (lt-ltb 0 k p) at h),
+  λ h. by-order 0 k (λ p. rw (lt-ltb 0 k p) (lt-leb first before (h p))) (λ p. rw (le-ltb 0 k p)),
+)
+
+-- A range is not broken exactly where it keeps each part of the rule.
+pub range-good-iff : (t : List ℕ) (k : ℕ) → (rangeBroken t k ≡ false) ↔ RangeGood t k
+unfolding rangeBroken notAbove
+range-good-iff t k =
+    let both = neither-iff (ltb (lastOf t k) (firstOf t k) || notAbove t k) (holdsFixed (firstOf t k) (lastOf t k)) in
+    let order = neither-iff (ltb (lastOf t k) (firstOf t k)) (notAbove t k) in
+    let above = above-iff k (firstOf t k) (lastOf t (k - 1)) in
+    let fixed = fixed-iff (firstOf t k) (lastOf t k) in (
+      (λ h. record {
+        own = ltb-false _ _ (order .0 (both .0 h .0) .0);
+        above = above .0 (order .0 (both .0 h .0) .1);
+        fixed = λ value f. outside-iff _ _ value .0 (fixed .0 (both .0 h .1) value f);
+      }),
+      (λ g. both .1 (order .1 (le-ltb _ _ (g .own), above .1 (g .above)), fixed .1 (λ value f. outside-iff _ _ value .1 (g .fixed value f)))),
+    )
+
+-- None is broken exactly where each keeps the rule.
+pub ranges-good-iff : (t : List ℕ) → (firstBroken t ≡ found.None) ↔ ((k : ℕ) → k < rangeCount t → RangeGood t k)
+unfolding firstBroken
+ranges-good-iff t = (
+  λ h k p. range-good-iff t k .0 (found-none (rangeBroken t k) k (first-none (brokenAt t) 0 _ h k (omega arith) (omega arith))),
+  λ g. none-first (brokenAt t) 0 _ (λ k p q. rw (range-good-iff t k .1 (g k (omega arith)))),
+)
+
+is-none-iff : (f : Found) → (isNone f ≡ true) ↔ (f ≡ found.None)
+is-none-iff found.None = (λ h. refl, λ h. refl)
+is-none-iff (found.At k) = (λ h. absurd (true≢false (sym h)), λ h. let z : _≡_ {A = ℕ} 0 1 = cc in absurd (omega arith))
+
+-- The test of a whole table says so too.
+pub all-good-iff : (t : List ℕ) → (rangesGood t ≡ true) ↔ (firstBroken t ≡ found.None)
+unfolding rangesGood
+all-good-iff t = is-none-iff (firstBroken t)
+
+-- A table without a broken range is in order.
+pub good-in-order : (t : List ℕ) → firstBroken t ≡ found.None → InOrder t
+good-in-order t h =
+    let good = ranges-good-iff t .0 h in
+    let back : (k : ℕ) → suc k - 1 ≡ k = λ k. omega arith in
+    record { own = λ k p. good k p .own; next = λ k p. rw (back k) at (good (suc k) p .above (omega arith)) }
+
+-- The widths that it gives: a value that a range holds has that range's width, any other 1, and so have the four fixed characters.
+pub right-widths : (t : List ℕ) → firstBroken t ≡ found.None → WidthsRight t
+right-widths t h =
+    let good = ranges-good-iff t .0 h in
+    record {
+      held = λ k v. width-held t v k (good-in-order t h);
+      other = width-other t;
+      fixed = λ v f. width-other t v (λ k p. good k p .fixed v f);
+    }
 
 fit-count-le : (t : List ℕ) (room : ℕ) (label : List ℕ) → fitCount t room label ≤ length label
 unfolding fitCount

@@ -1,9 +1,11 @@
-// The width of a glyph, and the part of a label that fits.
+// The width of a glyph, the rule of the ranges that give it, and the part of a label that fits.
 ghost use mathlib.Core.Path.{_≡_};
 ghost use Prim.Native.Nat.{_+_, _*_, _/_, _≤_, _<_};
 ghost use lib.ListN.{length, getD};
 ghost use Rattle.glyph.specs.Width.{widthOf, firstOf, lastOf, rangeWidth, rangeCount, asWidth};
+ghost use Rattle.glyph.specs.Ranges.{holds, holdsFixed, notAbove, rangeBroken, firstBroken};
 ghost use Rattle.glyph.specs.Fitting.{fitCount, fitting};
+use ground::Found;
 
 // One width range: the values from first to last have this width.
 pub struct Range {
@@ -53,6 +55,55 @@ pub fn char_width(ranges: &[u32], value: u32) -> u32
         }
     }
     1
+}
+
+fn holds(first: u32, last: u32, value: u32) -> bool
+    ensures { λ r. ⌜ r ≡ holds first last value ⌝ }
+{
+    (first <= value) & (value <= last)
+}
+
+// "holds 0020, 0022, 005B or 005D"
+fn holds_fixed(first: u32, last: u32) -> bool
+    ensures { λ r. ⌜ r ≡ holdsFixed first last ⌝ }
+{
+    holds(first, last, 0x20)
+        | holds(first, last, 0x22)
+        | holds(first, last, 0x5B)
+        | holds(first, last, 0x5D)
+}
+
+// "first not above the last before it"; before range 0 there is none.
+fn not_above(ranges: &[u32], k: usize) -> bool
+    requires { ⌜ k < rangeCount (now ranges) ⌝ }
+    ensures { λ r. ⌜ r ≡ notAbove (now (ranges .entry)) k ⌝ }
+{
+    let before = ground::minus(k, 1);
+    (0 < k) & (ranges[3 * k] <= ranges[3 * before + 1])
+}
+
+fn range_broken(ranges: &[u32], k: usize) -> bool
+    requires { ⌜ k < rangeCount (now ranges) ⌝ }
+    ensures { λ r. ⌜ r ≡ rangeBroken (now (ranges .entry)) k ⌝ }
+{
+    let first = ranges[3 * k];
+    let last = ranges[3 * k + 1];
+    (last < first) | not_above(ranges, k) | holds_fixed(first, last)
+}
+
+// The first range that breaks the rule of code 5.
+pub fn first_broken(ranges: &[u32]) -> Found
+    ensures { λ r. ⌜ r ≡ firstBroken (now (ranges .entry)) ⌝ }
+{
+    let count = ranges.len() / 3;
+    let mut k: usize = 0;
+    while k < count {
+        if range_broken(ranges, k) {
+            return Found::At(k);
+        }
+        k += 1;
+    }
+    Found::None
 }
 
 // How many glyphs of the label fit into so many columns.

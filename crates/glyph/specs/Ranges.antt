@@ -1,0 +1,72 @@
+-- The rule of code 5: "a width range has first > last, first not above the last before it, or holds 0020, 0022, 005B or 005D". It is one test, over any
+-- table of ranges.
+use Prim.Native.Nat.{ℕ, _-_, _≤_, _<_}
+use mathlib.Core.Bool.{Bool, true, false, _&&_, _||_}
+use mathlib.Core.List.{List}
+use mathlib.Core.Path.{_≡_}
+use lib.Dec.{leb, ltb}
+use Rattle.ground.specs.First.{foundIf, firstFrom}
+use Rattle.ground.specs.declared.Found.{Found}
+use Rattle.ground.specs.declared.Found.the-variants as found
+use Rattle.glyph.specs.Width.{rangeCount, firstOf, lastOf, rangeWidth, widthOf}
+
+-- a range from first to last holds a value
+abbrev pub holds : ℕ → ℕ → ℕ → Bool
+holds first last value = leb first value && leb value last
+
+-- "holds 0020, 0022, 005B or 005D": the characters that painting itself writes, whose width is fixed
+unfoldable pub holdsFixed : ℕ → ℕ → Bool
+holdsFixed first last = holds first last 0x20 || holds first last 0x22 || holds first last 0x5B || holds first last 0x5D
+
+-- "first not above the last before it"; before range 0 there is none
+unfoldable pub notAbove : List ℕ → ℕ → Bool
+notAbove table k = ltb 0 k && leb (firstOf table k) (lastOf table (k - 1))
+
+-- range k breaks the rule
+unfoldable pub rangeBroken : List ℕ → ℕ → Bool
+rangeBroken table k = ltb (lastOf table k) (firstOf table k) || notAbove table k || holdsFixed (firstOf table k) (lastOf table k)
+
+abbrev pub brokenAt : List ℕ → ℕ → Found
+brokenAt table k = foundIf (rangeBroken table k) k
+
+-- the first range that breaks it
+unfoldable pub firstBroken : List ℕ → Found
+firstBroken table = firstFrom (brokenAt table) 0 (rangeCount table)
+
+-- no range breaks it
+
+abbrev pub isNone : Found → Bool
+isNone found.None = true
+isNone (found.At k) = false
+
+unfoldable pub rangesGood : List ℕ → Bool
+rangesGood table = isNone (firstBroken table)
+
+-- the four characters
+pub data Fixed : ℕ → Type 0 where
+  space : Fixed 0x20
+  quote : Fixed 0x22
+  opening : Fixed 0x5B
+  closing : Fixed 0x5D
+
+-- range k keeps the rule
+pub record RangeGood (table : List ℕ) (k : ℕ) : Type 0 where
+  -- not "first > last"
+  pub own : firstOf table k ≤ lastOf table k
+  -- not "first not above the last before it"
+  pub above : 0 < k → lastOf table (k - 1) < firstOf table k
+  -- not "holds 0020, 0022, 005B or 005D"
+  pub fixed : (value : ℕ) → Fixed value → firstOf table k ≤ value → value ≤ lastOf table k → ⊥
+
+-- the widths that a table without a broken range gives
+pub record WidthsRight (table : List ℕ) : Type 0 where
+  -- "Width range, 3: first, last .., width 0 or 2": a value that a range holds has its width
+  pub held :
+      (k value : ℕ) → k < rangeCount table → firstOf table k ≤ value → value ≤ lastOf table k →
+      widthOf table value ≡ rangeWidth table k
+  -- "all others 1"
+  pub other :
+      (value : ℕ) → ((k : ℕ) → k < rangeCount table → firstOf table k ≤ value → value ≤ lastOf table k → ⊥) →
+      widthOf table value ≡ 1
+  -- so the four characters have width 1
+  pub fixed : (value : ℕ) → Fixed value → widthOf table value ≡ 1
