@@ -6,7 +6,7 @@ use lib.ListN.{length}
 use lib.Dec.{leb, ltb, eqb}
 use Rattle.cell.specs.OneCell.{weightNumber}
 use Rattle.glyph.specs.Width.{widthOf}
-use Rattle.glyph.specs.Fitting.{fitting}
+use Rattle.glyph.specs.Fitting.{fitPrefix}
 use Rattle.image.specs.declared.LabelPosition.{LabelPosition}
 use Rattle.image.specs.declared.LabelPosition.the-variants.{InsideTop, InsideBottom}
 use Rattle.image.specs.declared.Subgraph.{Subgraph}
@@ -43,7 +43,7 @@ anyInk ranges (ch ∷ label) = ltb 0 (widthOf ranges ch) || anyInk ranges label
 
 -- the label makes a glyph of width 1 or 2
 unfoldable pub labelInks : List ℕ → Subgraph → List ℕ → Bool
-labelInks ranges s label = hasLabel s label && anyInk ranges (fitting ranges (labelRoom (s .width)) label)
+labelInks ranges s label = hasLabel s label && anyInk ranges (fitPrefix label ranges (labelRoom (s .width)))
 
 abbrev pub borderRows : ℕ → Subgraph → Rows
 borderRows height s = cond (hasBorder s) (boxRows height (s .y) (s .height)) rows.None

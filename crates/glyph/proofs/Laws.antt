@@ -40,24 +40,32 @@ module _ (t : List ℕ) (v low high r : ℕ) (i : bisect (high - low) t v low hi
   turn : bisect (suc (high - low)) t v low high ≡ r
   turn = enough _ _ t v low high (omega arith) (omega arith) ∙ i
 
-  module _ (h : low < high) (first last : ℕ) (e : first ≡ firstOf t (middle low high)) (d : last ≡ lastOf t (middle low high)) where
+  module _ (h : low < high) where
     -- a turn that keeps the lower half, one that keeps the upper half, and one that finds the range
 
-    pub left-half : v < first → bisect (middle low high - low) t v low (middle low high) ≡ r
+    pub left-half : v < firstOf t (middle low high) → bisect (middle low high - low) t v low (middle low high) ≡ r
     unfolding bisect
     left-half p =
-        enough (middle low high - low) (high - low) t v low (middle low high) (omega arith) (omega arith) ∙ (simp (lt-ltb _ _ h, sym e, lt-ltb _ _ p) at turn)
+        enough (middle low high - low) (high - low) t v low (middle low high) (omega arith) (omega arith) ∙ (simp (lt-ltb _ _ h, lt-ltb _ _ p) at turn)
 
-    pub right-half : first ≤ v → last < v → bisect (high - (middle low high + 1)) t v (middle low high + 1) high ≡ r
+    pub right-half :
+        firstOf t (middle low high) ≤ v →
+        lastOf t (middle low high) < v →
+        bisect (high - (middle low high + 1)) t v (middle low high + 1) high ≡ r
     unfolding bisect
     right-half p q =
-        enough (high - (middle low high + 1)) (high - low) t v (middle low high + 1) high (omega arith) (omega arith) ∙ (simp (lt-ltb _ _ h, sym e, le-ltb _ _ p, sym d, lt-ltb _ _ q) at turn)
+        enough (high - (middle low high + 1)) (high - low) t v (middle low high + 1) high (omega arith) (omega arith) ∙ (simp (lt-ltb _ _ h, le-ltb _ _ p, lt-ltb _ _ q) at turn)
 
-    pub found : first ≤ v → v ≤ last → rangeWidth t (middle low high) ≡ r
+    pub found :
+        (width : ℕ) →
+        width ≡ rangeWidth t (middle low high) →
+        firstOf t (middle low high) ≤ v →
+        v ≤ lastOf t (middle low high) →
+        width ≡ r
     unfolding bisect
-    found p q = simp (lt-ltb _ _ h, sym e, le-ltb _ _ p, sym d, le-ltb _ _ q) at turn
+    found width e p q = e ∙ (simp (lt-ltb _ _ h, le-ltb _ _ p, le-ltb _ _ q) at turn)
 
-module _ (t : List ℕ) (left : ℕ) (label : List ℕ) (n r : ℕ) (i : n + fitCount t left (drop n label) ≡ r) where
+module _ (label t : List ℕ) (left n r : ℕ) (i : n + fitCount (drop n label) t left ≡ r) where
   -- no glyph is left
   pub all-fit : length label ≤ n → n ≡ r
   unfolding fitCount
@@ -66,7 +74,7 @@ module _ (t : List ℕ) (left : ℕ) (label : List ℕ) (n r : ℕ) (i : n + fit
   module _ (width : ℕ) (h : n < length label) (e : width ≡ widthOf t (getD label n 0)) where
     -- the next glyph fits, and it does not
 
-    pub one-more : width ≤ left → n + 1 + fitCount t (left - width) (drop (n + 1) label) ≡ r
+    pub one-more : width ≤ left → n + 1 + fitCount (drop (n + 1) label) t (left - width) ≡ r
     unfolding fitCount
     one-more p = rw add-one (omega (arith, simp (drop-cons label n 0 h, sym e, le-leb _ _ p) at i))
 

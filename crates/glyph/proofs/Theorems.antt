@@ -13,7 +13,7 @@ use borrow.Author.Tests.{ltb-false, leb-false, lt-ltb, le-ltb, le-leb, lt-leb}
 use Rattle.glyph.specs.Width.{InOrder, bisect, middle, widthOf, firstOf, lastOf, rangeWidth, rangeCount}
 use Rattle.glyph.specs.Ranges.{holds, holdsFixed, notAbove, rangeBroken, brokenAt, firstBroken, isNone, rangesGood}
 use Rattle.glyph.specs.Ranges.{Fixed, space, quote, opening, closing, RangeGood, WidthsRight}
-use Rattle.glyph.specs.Fitting.{columns, fitCount, fitting, LongestPrefix}
+use Rattle.glyph.specs.Fitting.{columnsOf, fitCount, fitPrefix, LongestPrefix}
 use Rattle.glyph.proofs.Laws.{by-range}
 use Rattle.ground.specs.declared.Found.{Found}
 use Rattle.ground.specs.declared.Found.the-variants as found
@@ -170,48 +170,48 @@ right-widths t h =
       fixed = λ v f. width-other t v (λ k p. good k p .fixed v f);
     }
 
-fit-count-le : (t : List ℕ) (room : ℕ) (label : List ℕ) → fitCount t room label ≤ length label
+fit-count-le : (label t : List ℕ) (columns : ℕ) → fitCount label t columns ≤ length label
 unfolding fitCount
-fit-count-le t room [] = omega arith
-fit-count-le t room (ch ∷ label) = cond-bound (leb (widthOf t ch) room) _ _ _ (suc-le-suc (fit-count-le t (room - widthOf t ch) label)) zero-le
+fit-count-le [] t columns = omega arith
+fit-count-le (ch ∷ label) t columns = cond-bound (leb (widthOf t ch) columns) _ _ _ (suc-le-suc (fit-count-le label t (columns - widthOf t ch))) zero-le
 
-fitting-length : (t : List ℕ) (room : ℕ) (label : List ℕ) → length (fitting t room label) ≡ fitCount t room label
-unfolding fitting
-fitting-length t room label = length-take-le _ _ (fit-count-le t room label)
+prefix-length : (label t : List ℕ) (columns : ℕ) → length (fitPrefix label t columns) ≡ fitCount label t columns
+unfolding fitPrefix
+prefix-length label t columns = length-take-le _ _ (fit-count-le label t columns)
 
-fitting-within : (t : List ℕ) (room : ℕ) (label : List ℕ) → columns t (take (fitCount t room label) label) ≤ room
-unfolding fitCount columns
-fitting-within t room [] = omega arith
-fitting-within t room (ch ∷ label) =
-    by-order room (widthOf t ch)
+prefix-within : (label t : List ℕ) (columns : ℕ) → columnsOf (take (fitCount label t columns) label) t ≤ columns
+unfolding fitCount columnsOf
+prefix-within [] t columns = omega arith
+prefix-within (ch ∷ label) t columns =
+    by-order columns (widthOf t ch)
     (λ h. simp (lt-leb _ _ h) (omega arith))
-    (λ h. simp (le-leb _ _ h) (omega (arith, fitting-within t (room - widthOf t ch) label)))
+    (λ h. simp (le-leb _ _ h) (omega (arith, prefix-within label t (columns - widthOf t ch))))
 
-no-longer : (t : List ℕ) (room : ℕ) (label : List ℕ) (n : ℕ) → n ≤ length label → columns t (take n label) ≤ room → n ≤ fitCount t room label
-unfolding fitCount columns
-no-longer t room label zero h p = omega arith
-no-longer t room [] (suc n) h p = omega arith
-no-longer t room (ch ∷ label) (suc n) h p =
-    let fits : widthOf t ch ≤ room = omega arith in
-    simp (le-leb _ _ fits) (omega (arith, no-longer t (room - widthOf t ch) label n (omega arith) (omega arith)))
+no-longer : (label t : List ℕ) (columns : ℕ) (n : ℕ) → n ≤ length label → columnsOf (take n label) t ≤ columns → n ≤ fitCount label t columns
+unfolding fitCount columnsOf
+no-longer label t columns zero h p = omega arith
+no-longer [] t columns (suc n) h p = omega arith
+no-longer (ch ∷ label) t columns (suc n) h p =
+    let fits : widthOf t ch ≤ columns = omega arith in
+    simp (le-leb _ _ fits) (omega (arith, no-longer label t (columns - widthOf t ch) n (omega arith) (omega arith)))
 
--- The fitting part is the longest prefix of the label within the room.
-pub fitting-longest : (t : List ℕ) (room : ℕ) (label : List ℕ) → LongestPrefix t room label (fitting t room label)
-unfolding fitting
-fitting-longest t room label =
+-- The fitting part is the longest prefix of the label within the columns.
+pub prefix-longest : (label t : List ℕ) (columns : ℕ) → LongestPrefix label t columns (fitPrefix label t columns)
+unfolding fitPrefix
+prefix-longest label t columns =
     record {
-      prefix = rw (fitting-length t room label);
-      within = fitting-within t room label;
-      longest = λ n h p. rw (fitting-length t room label) (no-longer t room label n h p);
+      prefix = rw (prefix-length label t columns);
+      within = prefix-within label t columns;
+      longest = λ n h p. rw (prefix-length label t columns) (no-longer label t columns n h p);
     }
 
--- A prefix of the label that is longest within the room is the fitting part: there is no other.
-pub longest-unique : (t : List ℕ) (room : ℕ) (label part : List ℕ) → LongestPrefix t room label part → part ≡ fitting t room label
-longest-unique t room label part l =
-    let f = fitting-longest t room label in
+-- A prefix of the label that is longest within the columns is the fitting part: there is no other.
+pub longest-unique : (label t : List ℕ) (columns : ℕ) (part : List ℕ) → LongestPrefix label t columns part → part ≡ fitPrefix label t columns
+longest-unique label t columns part l =
+    let f = prefix-longest label t columns in
     let a : length part ≤ length label = omega (arith, ap length (l .prefix) ∙ length-take (length part) label) in
-    let b : length (fitting t room label) ≤ length label = omega (arith, fitting-length t room label, fit-count-le t room label) in
-    let c : length part ≤ length (fitting t room label) = f .longest (length part) a (rw (l .prefix) at (l .within)) in
-    let d : length (fitting t room label) ≤ length part = l .longest (length (fitting t room label)) b (rw (f .prefix) at (f .within)) in
-    let e : length part ≡ length (fitting t room label) = omega arith in
+    let b : length (fitPrefix label t columns) ≤ length label = omega (arith, prefix-length label t columns, fit-count-le label t columns) in
+    let c : length part ≤ length (fitPrefix label t columns) = f .longest (length part) a (rw (l .prefix) at (l .within)) in
+    let d : length (fitPrefix label t columns) ≤ length part = l .longest (length (fitPrefix label t columns)) b (rw (f .prefix) at (f .within)) in
+    let e : length part ≡ length (fitPrefix label t columns) = omega arith in
     l .prefix ∙ ap (λ n. take n label) e ∙ sym (f .prefix)

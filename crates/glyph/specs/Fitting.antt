@@ -8,21 +8,21 @@ use lib.Dec.{leb}
 use Rattle.glyph.specs.Width.{widthOf}
 
 -- the columns that glyphs take
-unfoldable pub columns : List ℕ → List ℕ → ℕ
-columns table [] = 0
-columns table (ch ∷ label) = widthOf table ch + columns table label
+unfoldable pub columnsOf : List ℕ → List ℕ → ℕ
+columnsOf [] ranges = 0
+columnsOf (ch ∷ label) ranges = widthOf ranges ch + columnsOf label ranges
 
 -- how many glyphs from the first on fit: each as long as it takes no more columns than are left
-unfoldable pub fitCount : List ℕ → ℕ → List ℕ → ℕ
-fitCount table room [] = 0
-fitCount table room (ch ∷ label) =
-    cond (leb (widthOf table ch) room) (suc (fitCount table (room - widthOf table ch) label)) 0
+unfoldable pub fitCount : List ℕ → List ℕ → ℕ → ℕ
+fitCount [] ranges columns = 0
+fitCount (ch ∷ label) ranges columns =
+    cond (leb (widthOf ranges ch) columns) (suc (fitCount label ranges (columns - widthOf ranges ch))) 0
 
-unfoldable pub fitting : List ℕ → ℕ → List ℕ → List ℕ
-fitting table room label = take (fitCount table room label) label
+unfoldable pub fitPrefix : List ℕ → List ℕ → ℕ → List ℕ
+fitPrefix label ranges columns = take (fitCount label ranges columns) label
 
 -- the longest prefix of the label within so many columns
-pub record LongestPrefix (table : List ℕ) (room : ℕ) (label : List ℕ) (part : List ℕ) : Type 0 where
+pub record LongestPrefix (label ranges : List ℕ) (columns : ℕ) (part : List ℕ) : Type 0 where
   pub prefix : part ≡ take (length part) label
-  pub within : columns table part ≤ room
-  pub longest : (n : ℕ) → n ≤ length label → columns table (take n label) ≤ room → n ≤ length part
+  pub within : columnsOf part ranges ≤ columns
+  pub longest : (n : ℕ) → n ≤ length label → columnsOf (take n label) ranges ≤ columns → n ≤ length part

@@ -20,18 +20,18 @@ holdsFixed first last = holds first last 0x20 || holds first last 0x22 || holds 
 
 -- "first not above the last before it"; before range 0 there is none
 unfoldable pub notAbove : List ℕ → ℕ → Bool
-notAbove table k = ltb 0 k && leb (firstOf table k) (lastOf table (k - 1))
+notAbove ranges k = ltb 0 k && leb (firstOf ranges k) (lastOf ranges (k - 1))
 
 -- range k breaks the rule
 unfoldable pub rangeBroken : List ℕ → ℕ → Bool
-rangeBroken table k = ltb (lastOf table k) (firstOf table k) || notAbove table k || holdsFixed (firstOf table k) (lastOf table k)
+rangeBroken ranges k = ltb (lastOf ranges k) (firstOf ranges k) || notAbove ranges k || holdsFixed (firstOf ranges k) (lastOf ranges k)
 
 abbrev pub brokenAt : List ℕ → ℕ → Found
-brokenAt table k = foundIf (rangeBroken table k) k
+brokenAt ranges k = foundIf (rangeBroken ranges k) k
 
 -- the first range that breaks it
 unfoldable pub firstBroken : List ℕ → Found
-firstBroken table = firstFrom (brokenAt table) 0 (rangeCount table)
+firstBroken ranges = firstFrom (brokenAt ranges) 0 (rangeCount ranges)
 
 -- no range breaks it
 
@@ -40,7 +40,7 @@ isNone found.None = true
 isNone (found.At k) = false
 
 unfoldable pub rangesGood : List ℕ → Bool
-rangesGood table = isNone (firstBroken table)
+rangesGood ranges = isNone (firstBroken ranges)
 
 -- the four characters
 pub data Fixed : ℕ → Type 0 where
@@ -50,23 +50,23 @@ pub data Fixed : ℕ → Type 0 where
   closing : Fixed 0x5D
 
 -- range k keeps the rule
-pub record RangeGood (table : List ℕ) (k : ℕ) : Type 0 where
+pub record RangeGood (ranges : List ℕ) (k : ℕ) : Type 0 where
   -- not "first > last"
-  pub own : firstOf table k ≤ lastOf table k
+  pub own : firstOf ranges k ≤ lastOf ranges k
   -- not "first not above the last before it"
-  pub above : 0 < k → lastOf table (k - 1) < firstOf table k
+  pub above : 0 < k → lastOf ranges (k - 1) < firstOf ranges k
   -- not "holds 0020, 0022, 005B or 005D"
-  pub fixed : (value : ℕ) → Fixed value → firstOf table k ≤ value → value ≤ lastOf table k → ⊥
+  pub fixed : (value : ℕ) → Fixed value → firstOf ranges k ≤ value → value ≤ lastOf ranges k → ⊥
 
 -- the widths that a table without a broken range gives
-pub record WidthsRight (table : List ℕ) : Type 0 where
+pub record WidthsRight (ranges : List ℕ) : Type 0 where
   -- "Width range, 3: first, last .., width 0 or 2": a value that a range holds has its width
   pub held :
-      (k value : ℕ) → k < rangeCount table → firstOf table k ≤ value → value ≤ lastOf table k →
-      widthOf table value ≡ rangeWidth table k
+      (k value : ℕ) → k < rangeCount ranges → firstOf ranges k ≤ value → value ≤ lastOf ranges k →
+      widthOf ranges value ≡ rangeWidth ranges k
   -- "all others 1"
   pub other :
-      (value : ℕ) → ((k : ℕ) → k < rangeCount table → firstOf table k ≤ value → value ≤ lastOf table k → ⊥) →
-      widthOf table value ≡ 1
+      (value : ℕ) → ((k : ℕ) → k < rangeCount ranges → firstOf ranges k ≤ value → value ≤ lastOf ranges k → ⊥) →
+      widthOf ranges value ≡ 1
   -- so the four characters have width 1
-  pub fixed : (value : ℕ) → Fixed value → widthOf table value ≡ 1
+  pub fixed : (value : ℕ) → Fixed value → widthOf ranges value ≡ 1

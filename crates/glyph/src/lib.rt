@@ -4,7 +4,7 @@ ghost use Prim.Native.Nat.{_+_, _*_, _/_, _≤_, _<_};
 ghost use lib.ListN.{length, getD};
 ghost use Rattle.glyph.specs.Width.{widthOf, firstOf, lastOf, rangeWidth, rangeCount, asWidth};
 ghost use Rattle.glyph.specs.Ranges.{holds, holdsFixed, notAbove, rangeBroken, firstBroken};
-ghost use Rattle.glyph.specs.Fitting.{fitCount, fitting};
+ghost use Rattle.glyph.specs.Fitting.{fitCount, fitPrefix};
 use ground::Found;
 
 // One width range: the values from first to last have this width.
@@ -108,7 +108,7 @@ pub fn first_broken(ranges: &[u32]) -> Found
 
 // How many glyphs of the label fit into so many columns.
 fn fit_count(label: &[u32], ranges: &[u32], columns: usize) -> usize
-    ensures { λ r. ⌜ (r ≡ fitCount (now (ranges .entry)) columns (now (label .entry))) × (r ≤ length (now (label .entry))) ⌝ }
+    ensures { λ r. ⌜ (r ≡ fitCount (now (label .entry)) (now (ranges .entry)) columns) × (r ≤ length (now (label .entry))) ⌝ }
 {
     let mut left = columns;
     let mut n: usize = 0;
@@ -125,7 +125,7 @@ fn fit_count(label: &[u32], ranges: &[u32], columns: usize) -> usize
 
 // "The fitting part is the longest prefix .. handed back as a part of the lent glyphs."
 pub fn fit_prefix<'a, 'b>(label: &'a [u32], ranges: &'b [u32], columns: usize) -> &'a [u32]
-    ensures { λ r. ⌜ now r ≡ fitting (now (ranges .entry)) columns (now (label .entry)) ⌝ }
+    ensures { λ r. ⌜ now r ≡ fitPrefix (now (label .entry)) (now (ranges .entry)) columns ⌝ }
 {
     let n = fit_count(label, ranges, columns);
     &label[..n]

@@ -1,7 +1,7 @@
 -- `char_width` is the width of a value. The invariant: what is left to bisect finds that width. The measure: how many ranges are left.
 use borrow.Author.Needs.{needs}
 use Prim.Native.Nat.{_-_, _≤_}
-use mathlib.Core.Path.{_≡_, _∙_}
+use mathlib.Core.Path.{_≡_}
 use Rattle.glyph.specs.Width.{bisect, widthOf, rangeCount}
 use Rattle.glyph.proofs.Laws.{all-ranges, searched, left-half, right-half, found}
 use Rattle.glyph.proofs.char_width.Statement.{statement}
@@ -16,41 +16,16 @@ abbrev μ-loop : tie.MeasureT-loop
 loop-holds : tie.Need-loop-holds Inv-loop μ-loop
 loop-holds c = (search needs, all-ranges _ _)
 
-sub-middle : tie.Need-sub-middle Inv-loop μ-loop
-sub-middle c = search needs
-
-add-middle : tie.Need-add-middle Inv-loop μ-loop
-add-middle c = search needs
-
-range-at-requires : tie.Need-range-at-requires Inv-loop μ-loop
-range-at-requires c κs = search needs
-
-loop-less : tie.Need-loop-less Inv-loop μ-loop
-loop-less c = search needs
-
 loop-again : tie.Need-loop-again Inv-loop μ-loop
-loop-again c =
-    let l = c .before .before .before .before .loop in
-    let e = c .before .before .range-at .ensures in
-    (search needs, left-half _ _ _ _ _ (l .inv .1) (search needs) _ _ (e .0) (e .1) (search needs))
-
-add-low : tie.Need-add-low Inv-loop μ-loop
-add-low c = search needs
-
-loop-less-2 : tie.Need-loop-less-2 Inv-loop μ-loop
-loop-less-2 c = search needs
+loop-again c = (search needs, left-half _ _ _ _ _ (search needs) (search needs) (search needs))
 
 loop-again-2 : tie.Need-loop-again-2 Inv-loop μ-loop
-loop-again-2 c =
-    let l = c .before .before .before .before .before .before .loop in
-    let e = c .before .before .before .before .range-at .ensures in
-    (search needs, right-half _ _ _ _ _ (l .inv .1) (search needs) _ _ (e .0) (e .1) (search needs) (search needs))
+loop-again-2 c = (search needs, right-half _ _ _ _ _ (search needs) (search needs) (search needs) (search needs))
 
 returns : tie.Need-returns Inv-loop μ-loop
 returns c =
     let l = c .before .before .before .before .before .before .loop in
-    let e = c .before .before .before .before .range-at .ensures in
-    (e .2 ∙ found _ _ _ _ _ (l .inv .1) (search needs) _ _ (e .0) (e .1) (search needs) (search needs), search needs)
+    (found _ _ _ _ _ (l .inv .1) (search needs) _ (search needs) (search needs) (search needs), search needs)
 
 returns-2 : tie.Need-returns-2 Inv-loop μ-loop
 returns-2 c = (searched _ _ _ _ _ (c .before .loop .inv .1) (search needs), search needs)
@@ -62,13 +37,13 @@ char-width-spec =
     Inv-loop
     μ-loop
     loop-holds
-    sub-middle
-    add-middle
-    range-at-requires
-    loop-less
+    (λ c. search needs)
+    (λ c. search needs)
+    (λ c κs. search needs)
+    (λ c. search needs)
     loop-again
-    add-low
-    loop-less-2
+    (λ c. search needs)
+    (λ c. search needs)
     loop-again-2
     returns
     returns-2)

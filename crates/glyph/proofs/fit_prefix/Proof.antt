@@ -2,19 +2,16 @@
 use borrow.Author.Needs.{needs}
 use mathlib.Core.Path.{sym}
 use lib.Seq.{length-take-le}
-use Rattle.glyph.specs.Fitting.{fitting}
+use Rattle.glyph.specs.Fitting.{fitPrefix}
 use Rattle.glyph.proofs.fit_prefix.Statement.{statement}
 use Rattle.glyph.proofs.fit_prefix.Tie as tie
-
-fit-count-requires : tie.Need-fit-count-requires
-fit-count-requires c κs = search needs
 
 slice-aggregate-result : tie.Need-slice-aggregate-result
 slice-aggregate-result c = sym (length-take-le _ _ (c .before .fit-count .ensures .1))
 
 returns : tie.Need-returns
-unfolding fitting
+unfolding fitPrefix
 returns c = rw (c .before .fit-count .ensures .0)
 
 pub fit-prefix-spec : {M : Type 1} → statement M
-fit-prefix-spec = tie.close (tie.spec fit-count-requires slice-aggregate-result returns)
+fit-prefix-spec = tie.close (tie.spec (λ c κs. search needs) slice-aggregate-result returns)
