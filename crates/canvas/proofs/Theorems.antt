@@ -13,7 +13,7 @@ use Rattle.cell.specs.declared.Arms.{Arms}
 use Rattle.cell.specs.declared.MarkerKind.{MarkerKind}
 use Rattle.cell.specs.declared.Dir.{Dir}
 use Rattle.cell.specs.declared.Parts.the-variants.{Text, Continuation}
-use Rattle.cell.specs.OneCell.{pack, readText, read, Packed, textCell}
+use Rattle.cell.specs.OneCell.{pack, readText, read, Packed, paintedText}
 use Rattle.cell.proofs.Theorems.{empty-packed, continuation-packed, stroke-packed, marker-packed, text-packed}
 use Rattle.glyph.specs.Width.{bisect, widthOf}
 use Rattle.canvas.specs.Row.{space, isWideLead, isContinuation, emptyContinuation, blankLead}
@@ -154,7 +154,7 @@ at-packed x row all =
     by-order x (length row) (all x) (λ h. rw (List·getD-eq-default row 0 h) empty-packed)
 
 space-packed : Packed (pack (Text space))
-unfolding textCell
+unfolding paintedText
 space-packed = text-packed space 0 (omega arith)
 
 empty-keeps : (ranges : List ℕ) (x : ℕ) (row : List ℕ) → AllPacked row → AllPacked (emptyContinuation ranges x row)
@@ -236,5 +236,5 @@ text-packed-row ranges x ch row valid all =
 
 -- The cases P5 and P6 of the proof table hold.
 pub proof-table-row : ProofTableRow
-unfolding pack readText read textCell bisect widthOf isWideLead isContinuation emptyContinuation blankLead put letterRow wideRow textRow
+unfolding pack readText read paintedText bisect widthOf isWideLead isContinuation emptyContinuation blankLead put letterRow wideRow textRow
 proof-table-row = record { p5 = refl; p6 = refl }

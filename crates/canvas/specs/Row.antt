@@ -10,7 +10,7 @@ use Rattle.cell.specs.declared.MarkerKind.{MarkerKind}
 use Rattle.cell.specs.declared.Dir.{Dir}
 use Rattle.cell.specs.declared.Parts.{Parts}
 use Rattle.cell.specs.declared.Parts.the-variants.{Empty, Text, Continuation, Stroke, Marker}
-use Rattle.cell.specs.OneCell.{pack, read, strokeCell, markerCell, textCell}
+use Rattle.cell.specs.OneCell.{pack, read, paintedStroke, paintedMarker, paintedText}
 use Rattle.glyph.specs.Width.{widthOf}
 
 abbrev pub space : ℕ
@@ -60,13 +60,13 @@ put ranges x new row =
 -- a stroke and a marker at a column
 
 unfoldable pub strokeRow : List ℕ → ℕ → Arms → List ℕ → List ℕ
-strokeRow ranges x arms row = put ranges x (strokeCell arms (getD row x 0)) row
+strokeRow ranges x arms row = put ranges x (paintedStroke (getD row x 0) arms) row
 
 unfoldable pub markerRow : List ℕ → ℕ → MarkerKind → Dir → Bool → List ℕ → List ℕ
-markerRow ranges x kind dir dashed row = put ranges x (markerCell kind dir dashed (getD row x 0)) row
+markerRow ranges x kind dir dashed row = put ranges x (paintedMarker (getD row x 0) kind dir dashed) row
 
 unfoldable pub letterRow : List ℕ → ℕ → ℕ → List ℕ → List ℕ
-letterRow ranges x ch row = put ranges x (textCell ch (getD row x 0)) row
+letterRow ranges x ch row = put ranges x (paintedText (getD row x 0) ch) row
 
 -- "width 2 in the last column paints a space, elsewhere lead and continuation"
 unfoldable pub wideRow : List ℕ → ℕ → ℕ → List ℕ → List ℕ

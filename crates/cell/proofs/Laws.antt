@@ -17,9 +17,9 @@ use Rattle.cell.specs.declared.Dir.the-variants.{Up, Down, Left, Right}
 use Rattle.cell.specs.declared.Arms.{Arms}
 use Rattle.cell.specs.declared.Parts.{Parts}
 use Rattle.cell.specs.declared.Parts.the-variants.{Empty, Text, Continuation, Stroke, Marker}
-use Rattle.cell.specs.OneCell.{weightNumber, kindNumber, dirNumber, weightOf, kindOf, dirOf}
+use Rattle.cell.specs.OneCell.{weightNumber, markerNumber, dirNumber, weightOf, markerOf, dirOf}
 use Rattle.cell.specs.OneCell.{packArms, packMarker, pack, readArms, readText, readMarker, read, Valid}
-use Rattle.cell.specs.OneCell.{heavier, hasDouble, doubleOnMarker, strokeOn, markerOn}
+use Rattle.cell.specs.OneCell.{heavier, hasDouble, doubleOnMarker, stroked, marked}
 use Rattle.cell.proofs.Parts.{the-type}
 
 -- the heavier of two weights, where the first is it
@@ -38,8 +38,8 @@ no-text = 0 ∷ 3 ∷ 4 ∷ []
 pub marked-rest :
     (kind : MarkerKind) (dir : Dir) (dashed : Bool) (p : Parts) →
     OneOf no-text (tagOf the-type p) →
-    Marker kind dir dashed ≡ markerOn kind dir dashed p
-unfolding markerOn
+    Marker kind dir dashed ≡ marked p kind dir dashed
+unfolding marked
 marked-rest kind dir dashed Empty h = refl
 marked-rest kind dir dashed (Text ch) h = absurd (miss no-text 1 tt h)
 marked-rest kind dir dashed Continuation h = absurd (miss no-text 2 tt h)
@@ -54,10 +54,10 @@ weight-small weight.Dashed = omega arith
 weight-small weight.Light = omega arith
 weight-small weight.Double = omega arith
 
-pub kind-small : (k : MarkerKind) → kindNumber k ≤ 3
-kind-small Arrow = omega arith
-kind-small SelfLoop = omega arith
-kind-small Dummy = omega arith
+pub marker-small : (k : MarkerKind) → markerNumber k ≤ 3
+marker-small Arrow = omega arith
+marker-small SelfLoop = omega arith
+marker-small Dummy = omega arith
 
 pub dir-small : (d : Dir) → dirNumber d ≤ 3
 dir-small Up = omega arith
@@ -75,10 +75,10 @@ weight-back weight.Dashed = refl
 weight-back weight.Light = refl
 weight-back weight.Double = refl
 
-kind-back : (k : MarkerKind) → kindOf (kindNumber k) ≡ k
-kind-back Arrow = refl
-kind-back SelfLoop = refl
-kind-back Dummy = refl
+marker-back : (k : MarkerKind) → markerOf (markerNumber k) ≡ k
+marker-back Arrow = refl
+marker-back SelfLoop = refl
+marker-back Dummy = refl
 
 dir-back : (d : Dir) → dirOf (dirNumber d) ≡ d
 dir-back Up = refl
@@ -138,8 +138,8 @@ pub read-marker :
     read w ≡ Marker k d x
 unfolding pack packMarker read readMarker
 read-marker k d x w e =
-    let f = marker-fields _ _ _ w (kind-small k) (dir-small d) (dashed-small x) e in
-    let kind : kindOf (w % 16) ≡ k = ap kindOf (f .1) ∙ kind-back _ in
+    let f = marker-fields _ _ _ w (marker-small k) (dir-small d) (dashed-small x) e in
+    let kind : markerOf (w % 16) ≡ k = ap markerOf (f .1) ∙ marker-back _ in
     let dir : dirOf (w / 16 % 4) ≡ d = ap dirOf (f .2) ∙ dir-back _ in
     let dashed : eqb (w / 64 % 2) 1 ≡ x = ap (λ (n : ℕ). eqb n 1) (f .3) ∙ dashed-back _ in
     rw (f .0, kind, dir, dashed)
@@ -163,8 +163,8 @@ double-valid new Arrow d = tt
 double-valid new SelfLoop d = tt
 double-valid new Dummy d = tt
 
-pub stroke-valid : (new : Arms) (p : Parts) → Valid p → Valid (strokeOn new p)
-unfolding Valid strokeOn
+pub stroke-valid : (new : Arms) (p : Parts) → Valid p → Valid (stroked p new)
+unfolding Valid stroked
 stroke-valid new Empty h = tt
 stroke-valid new (Text ch) h = pick-holds Valid (hasDouble new) tt h
 stroke-valid new Continuation h = pick-holds Valid (hasDouble new) tt h
@@ -174,8 +174,8 @@ stroke-valid new (Marker k d x) h = pick-holds Valid (hasDouble new) (double-val
 pub marker-valid :
     (kind : MarkerKind) (dir : Dir) (dashed : Bool) (p : Parts) →
     Valid p →
-    Valid (markerOn kind dir dashed p)
-unfolding Valid markerOn
+    Valid (marked p kind dir dashed)
+unfolding Valid marked
 marker-valid kind dir dashed Empty h = tt
 marker-valid kind dir dashed (Text ch) h = h
 marker-valid kind dir dashed Continuation h = h

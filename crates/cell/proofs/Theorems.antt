@@ -9,9 +9,9 @@ use Rattle.cell.specs.declared.Arms.{Arms}
 use Rattle.cell.specs.declared.MarkerKind.{MarkerKind}
 use Rattle.cell.specs.declared.Dir.{Dir}
 use Rattle.cell.specs.OneCell.{packArms, packMarker, pack, readArms, readText, readMarker, read, Valid, Packed}
-use Rattle.cell.specs.OneCell.{heavierArms, hasDouble, doubleOnMarker, strokeOn, markerOn, strokeCell, markerCell, textCell}
+use Rattle.cell.specs.OneCell.{heavierArms, hasDouble, doubleOnMarker, stroked, marked, paintedStroke, paintedMarker, paintedText}
 use Rattle.cell.specs.ProofTable.{ProofTableCell}
-use Rattle.cell.proofs.Laws.{weight-small, kind-small, dir-small, dashed-small}
+use Rattle.cell.proofs.Laws.{weight-small, marker-small, dir-small, dashed-small}
 use Rattle.cell.proofs.Laws.{read-stroke, read-marker, read-text, stroke-valid, marker-valid}
 
 -- Reading a packing gives the parts back.
@@ -35,7 +35,7 @@ pack-fits (Text ch) = omega arith
 pack-fits Continuation = omega arith
 pack-fits (Stroke a) =
     omega (arith, weight-small (a .up), weight-small (a .down), weight-small (a .left), weight-small (a .right))
-pack-fits (Marker k d x) = omega (arith, kind-small k, dir-small d, dashed-small x)
+pack-fits (Marker k d x) = omega (arith, marker-small k, dir-small d, dashed-small x)
 
 -- The empty cell is a packing.
 pub empty-packed : Packed 0
@@ -52,10 +52,10 @@ read-valid : (w : ℕ) → Packed w → Valid (read w)
 read-valid w h = rw (h .packing, read-pack (h .parts) (h .valid)) (h .valid)
 
 -- A stroke on a packed word leaves a packed word.
-pub stroke-packed : (new : Arms) (w : ℕ) → Packed w → Packed (strokeCell new w)
-unfolding strokeCell
+pub stroke-packed : (new : Arms) (w : ℕ) → Packed w → Packed (paintedStroke w new)
+unfolding paintedStroke
 stroke-packed new w h = record {
-  parts = strokeOn new (read w);
+  parts = stroked (read w) new;
   valid = stroke-valid new (read w) (read-valid w h);
   packing = refl;
 }
@@ -64,22 +64,22 @@ stroke-packed new w h = record {
 pub marker-packed :
     (kind : MarkerKind) (dir : Dir) (dashed : Bool) (w : ℕ) →
     Packed w →
-    Packed (markerCell kind dir dashed w)
-unfolding markerCell
+    Packed (paintedMarker w kind dir dashed)
+unfolding paintedMarker
 marker-packed kind dir dashed w h = record {
-  parts = markerOn kind dir dashed (read w);
+  parts = marked (read w) kind dir dashed;
   valid = marker-valid kind dir dashed (read w) (read-valid w h);
   packing = refl;
 }
 
 -- Text of a Unicode code point on any word leaves a packed word.
-pub text-packed : (ch w : ℕ) → ch ≤ 0x10FFFF → Packed (textCell ch w)
-unfolding textCell Valid
+pub text-packed : (ch w : ℕ) → ch ≤ 0x10FFFF → Packed (paintedText w ch)
+unfolding paintedText Valid
 text-packed ch w h = record { parts = Text ch; valid = h; packing = refl }
 
 -- The cases P1 to P4 of the proof table hold.
 pub proof-table-cell : ProofTableCell
-unfolding packArms packMarker pack readArms readText readMarker read heavierArms hasDouble doubleOnMarker strokeOn strokeCell
+unfolding packArms packMarker pack readArms readText readMarker read heavierArms hasDouble doubleOnMarker stroked paintedStroke
 proof-table-cell = record {
   p1 = refl;
   p2 = λ dashed. elim dashed [ true ↦ refl | false ↦ refl ];

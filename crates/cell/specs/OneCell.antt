@@ -23,10 +23,10 @@ weightNumber weight.Light = 2
 weightNumber weight.Double = 3
 
 -- a marker's kind: 1 Arrow, 2 SelfLoop, 3 Dummy
-abbrev pub kindNumber : MarkerKind → ℕ
-kindNumber Arrow = 1
-kindNumber SelfLoop = 2
-kindNumber Dummy = 3
+abbrev pub markerNumber : MarkerKind → ℕ
+markerNumber Arrow = 1
+markerNumber SelfLoop = 2
+markerNumber Dummy = 3
 
 -- a direction: Up, Down, Left, Right from 0
 abbrev pub dirNumber : Dir → ℕ
@@ -41,8 +41,8 @@ abbrev pub weightOf : ℕ → Weight
 weightOf n =
     cond (eqb n 1) weight.Dashed (cond (eqb n 2) weight.Light (cond (eqb n 3) weight.Double weight.None))
 
-abbrev pub kindOf : ℕ → MarkerKind
-kindOf n = cond (eqb n 2) SelfLoop (cond (eqb n 3) Dummy Arrow)
+abbrev pub markerOf : ℕ → MarkerKind
+markerOf n = cond (eqb n 2) SelfLoop (cond (eqb n 3) Dummy Arrow)
 
 abbrev pub dirOf : ℕ → Dir
 dirOf n = cond (eqb n 0) Up (cond (eqb n 1) Down (cond (eqb n 2) Left Right))
@@ -65,7 +65,7 @@ packArms a =
 
 -- "kind in bits 3..0, direction in 5..4, dashed in bit 6"
 unfoldable pub packMarker : MarkerKind → Dir → Bool → ℕ
-packMarker kind dir dashed = kindNumber kind + 16 * dirNumber dir + 64 * cond dashed 1 0
+packMarker kind dir dashed = markerNumber kind + 16 * dirNumber dir + 64 * cond dashed 1 0
 
 -- "Text: code point; bit 21 alone is a continuation." A code point has 21 bits.
 unfoldable pub pack : Parts → ℕ
@@ -89,7 +89,7 @@ unfoldable pub readText : ℕ → Parts
 readText w = cond (eqb (w / 0x200000 % 2) 1) Continuation (Text (w % 0x200000))
 
 unfoldable pub readMarker : ℕ → Parts
-readMarker w = Marker (kindOf (w % 16)) (dirOf (w / 16 % 4)) (eqb (w / 64 % 2) 1)
+readMarker w = Marker (markerOf (w % 16)) (dirOf (w / 16 % 4)) (eqb (w / 64 % 2) 1)
 
 unfoldable pub read : ℕ → Parts
 read w =
@@ -130,7 +130,7 @@ isDouble w = eqb (weightNumber w) 3
 
 -- "with one", a Double arm
 unfoldable pub hasDouble : Arms → Bool
-hasDouble a = isDouble (a .up) || (isDouble (a .down) || (isDouble (a .left) || isDouble (a .right)))
+hasDouble a = isDouble (a .up) || isDouble (a .down) || isDouble (a .left) || isDouble (a .right)
 
 -- "a Light stem in its direction"
 abbrev pub stem : Dir → Arms
@@ -146,32 +146,29 @@ doubleOnMarker new SelfLoop dir = Stroke new
 doubleOnMarker new Dummy dir = Stroke new
 
 -- "A stroke on a stroke takes the greater weight per arm; on empty, itself. On text or a marker it does nothing without a Double arm; with one it replaces text .."
-unfoldable pub strokeOn : Arms → Parts → Parts
-strokeOn new Empty = Stroke new
-strokeOn new (Text ch) = cond (hasDouble new) (Stroke new) (Text ch)
-strokeOn new Continuation = cond (hasDouble new) (Stroke new) Continuation
-strokeOn new (Stroke old) = Stroke (heavierArms old new)
-strokeOn new (Marker kind dir dashed) = cond (hasDouble new) (doubleOnMarker new kind dir) (Marker kind dir dashed)
+unfoldable pub stroked : Parts → Arms → Parts
+stroked Empty new = Stroke new
+stroked (Text ch) new = cond (hasDouble new) (Stroke new) (Text ch)
+stroked Continuation new = cond (hasDouble new) (Stroke new) Continuation
+stroked (Stroke old) new = Stroke (heavierArms old new)
+stroked (Marker kind dir dashed) new = cond (hasDouble new) (doubleOnMarker new kind dir) (Marker kind dir dashed)
 
 -- "A marker replaces all but text."
-unfoldable pub markerOn : MarkerKind → Dir → Bool → Parts → Parts
-markerOn kind dir dashed Empty = Marker kind dir dashed
-markerOn kind dir dashed (Text ch) = Text ch
-markerOn kind dir dashed Continuation = Continuation
-markerOn kind dir dashed (Stroke arms) = Marker kind dir dashed
-markerOn kind dir dashed (Marker k d x) = Marker kind dir dashed
-
--- "Text replaces everything."
-abbrev pub textOn : ℕ → Parts → Parts
-textOn ch old = Text ch
+unfoldable pub marked : Parts → MarkerKind → Dir → Bool → Parts
+marked Empty kind dir dashed = Marker kind dir dashed
+marked (Text ch) kind dir dashed = Text ch
+marked Continuation kind dir dashed = Continuation
+marked (Stroke arms) kind dir dashed = Marker kind dir dashed
+marked (Marker k d x) kind dir dashed = Marker kind dir dashed
 
 -- The same on a cell's word.
 
-unfoldable pub strokeCell : Arms → ℕ → ℕ
-strokeCell new w = pack (strokeOn new (read w))
+unfoldable pub paintedStroke : ℕ → Arms → ℕ
+paintedStroke w new = pack (stroked (read w) new)
 
-unfoldable pub markerCell : MarkerKind → Dir → Bool → ℕ → ℕ
-markerCell kind dir dashed w = pack (markerOn kind dir dashed (read w))
+unfoldable pub paintedMarker : ℕ → MarkerKind → Dir → Bool → ℕ
+paintedMarker w kind dir dashed = pack (marked (read w) kind dir dashed)
 
-unfoldable pub textCell : ℕ → ℕ → ℕ
-textCell ch w = pack (textOn ch (read w))
+-- "Text replaces everything."
+unfoldable pub paintedText : ℕ → ℕ → ℕ
+paintedText w ch = pack (Text ch)

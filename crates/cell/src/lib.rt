@@ -1,16 +1,20 @@
 // One cell of the picture: its parts, packed into a word and read back, and the three rules by which ink falls on what is there.
 ghost use mathlib.Core.Path.{_≡_};
 ghost use Prim.Native.Nat.{_<_, _≤_};
-ghost use Rattle.cell.specs.OneCell.{weightNumber, kindNumber, dirNumber, weightOf, kindOf, dirOf};
+ghost use Rattle.cell.specs.OneCell.{weightNumber, markerNumber, dirNumber, weightOf, markerOf, dirOf};
 ghost use Rattle.cell.specs.OneCell.{vertical, horizontal, packArms, packMarker, pack, readArms, readText, readMarker, read};
 ghost use Rattle.cell.specs.OneCell.{heavier, heavierArms, isDouble, hasDouble, stem, doubleOnMarker};
-ghost use Rattle.cell.specs.OneCell.{strokeOn, markerOn, textOn, strokeCell, markerCell, textCell};
+ghost use Rattle.cell.specs.OneCell.{stroked, marked, paintedStroke, paintedMarker, paintedText};
 
 // The weight of one arm of a stroke.
 pub enum Weight {
+    // No arm.
     None,
+    // Weaker than any other arm.
     Dashed,
+    // The usual line.
     Light,
+    // The heaviest: it alone replaces text and markers.
     Double,
 }
 
@@ -56,14 +60,17 @@ impl Weight {
 
 // Ink that stands at an end or a node, and is no part of a line.
 pub enum MarkerKind {
+    // The head of an edge, pointing in its direction.
     Arrow,
+    // The sign of an edge from a node to itself.
     SelfLoop,
+    // The place of a node that only the layout has.
     Dummy,
 }
 
 impl MarkerKind {
     pub fn number(self) -> u32
-        ensures { λ r. ⌜ (r ≡ kindNumber self) × (r ≤ 3) ⌝ }
+        ensures { λ r. ⌜ (r ≡ markerNumber self) × (r ≤ 3) ⌝ }
     {
         match self {
             MarkerKind::Arrow => 1,
@@ -73,7 +80,7 @@ impl MarkerKind {
     }
 
     pub fn from_bits(bits: u32) -> MarkerKind
-        ensures { λ r. ⌜ r ≡ kindOf bits ⌝ }
+        ensures { λ r. ⌜ r ≡ markerOf bits ⌝ }
     {
         match bits {
             2 => MarkerKind::SelfLoop,
@@ -85,9 +92,13 @@ impl MarkerKind {
 
 // Where an arrow points.
 pub enum Dir {
+    // To the row above.
     Up,
+    // To the row below.
     Down,
+    // To the column before.
     Left,
+    // To the column after.
     Right,
 }
 
@@ -117,9 +128,13 @@ impl Dir {
 
 // The four arms of a stroke.
 pub struct Arms {
+    // To the row above.
     pub up: Weight,
+    // To the row below.
     pub down: Weight,
+    // To the column before.
     pub left: Weight,
+    // To the column after.
     pub right: Weight,
 }
 
@@ -148,7 +163,7 @@ impl Arms {
     }
 
     // "weights at bits 0 up, 3 down, 6 left, 9 right"
-    pub fn packed(self) -> u32
+    pub fn pack(self) -> u32
         ensures { λ r. ⌜ (r ≡ packArms self) × (r < 4096) ⌝ }
     {
         let up = self.up;
@@ -158,14 +173,15 @@ impl Arms {
         up.number() + 8 * down.number() + 64 * left.number() + 512 * right.number()
     }
 
-    pub fn from_bits(bits: u32) -> Arms
-        ensures { λ r. ⌜ r ≡ readArms bits ⌝ }
+    // The arms of any word.
+    pub fn read(word: u32) -> Arms
+        ensures { λ r. ⌜ r ≡ readArms word ⌝ }
     {
         Arms {
-            up: Weight::from_bits(bits % 8),
-            down: Weight::from_bits(bits / 8 % 8),
-            left: Weight::from_bits(bits / 64 % 8),
-            right: Weight::from_bits(bits / 512 % 8),
+            up: Weight::from_bits(word % 8),
+            down: Weight::from_bits(word / 8 % 8),
+            left: Weight::from_bits(word / 64 % 8),
+            right: Weight::from_bits(word / 512 % 8),
         }
     }
 
@@ -196,16 +212,7 @@ impl Arms {
         let down = self.down;
         let left = self.left;
         let right = self.right;
-        if up.is_double() {
-            return true;
-        }
-        if down.is_double() {
-            return true;
-        }
-        if left.is_double() {
-            return true;
-        }
-        right.is_double()
+        up.is_double() | down.is_double() | left.is_double() | right.is_double()
     }
 
     // "a Light stem in its direction"
@@ -245,13 +252,21 @@ impl Arms {
 
 // What a cell means.
 pub enum Parts {
+    // Nothing was written.
     Empty,
+    // A glyph, by its code point; the first column of a wide one.
     Text(u32),
+    // The second column of a wide glyph.
     Continuation,
+    // A part of lines, by its arms.
     Stroke(Arms),
+    // An arrow, a self-loop or a dummy.
     Marker {
+        // Which of the three.
         kind: MarkerKind,
+        // Where it points.
         dir: Dir,
+        // Whether its edge is reversed.
         dashed: bool,
     },
 }
@@ -264,8 +279,8 @@ impl Parts {
             Parts::Empty => 0,
             Parts::Text(ch) => 0x4000_0000 + ch % 0x20_0000,
             Parts::Continuation => 0x4020_0000,
-            Parts::Stroke(arms) => 0x8000_0000 + arms.packed(),
-            Parts::Marker { kind, dir, dashed } => 0xC000_0000 + packed_marker(kind, dir, dashed),
+            Parts::Stroke(arms) => 0x8000_0000 + arms.pack(),
+            Parts::Marker { kind, dir, dashed } => 0xC000_0000 + pack_marker(kind, dir, dashed),
         }
     }
 
@@ -277,14 +292,14 @@ impl Parts {
         match tag {
             0 => Parts::Empty,
             1 => read_text(word),
-            2 => Parts::Stroke(Arms::from_bits(word)),
+            2 => Parts::Stroke(Arms::read(word)),
             _ => read_marker(word),
         }
     }
 
     // A stroke on what is there.
     pub fn stroked(self, new: Arms) -> Parts
-        ensures { λ r. ⌜ r ≡ strokeOn new self ⌝ }
+        ensures { λ r. ⌜ r ≡ stroked self new ⌝ }
     {
         let double = new.has_double();
         match self {
@@ -302,7 +317,7 @@ impl Parts {
 
     // A marker on what is there: "A marker replaces all but text."
     pub fn marked(self, kind: MarkerKind, dir: Dir, dashed: bool) -> Parts
-        ensures { λ r. ⌜ r ≡ markerOn kind dir dashed self ⌝ }
+        ensures { λ r. ⌜ r ≡ marked self kind dir dashed ⌝ }
     {
         match self {
             Parts::Text(ch) => self,
@@ -317,7 +332,7 @@ impl Parts {
 }
 
 // "kind in bits 3..0, direction in 5..4, dashed in bit 6"
-fn packed_marker(kind: MarkerKind, dir: Dir, dashed: bool) -> u32
+fn pack_marker(kind: MarkerKind, dir: Dir, dashed: bool) -> u32
     ensures { λ r. ⌜ (r ≡ packMarker kind dir dashed) × (r < 128) ⌝ }
 {
     let low = kind.number() + 16 * dir.number();
@@ -391,7 +406,7 @@ impl Cell {
     }
 
     pub fn painted_stroke(self, new: Arms) -> Cell
-        ensures { λ r. ⌜ r .0 ≡ strokeCell new (self .0) ⌝ }
+        ensures { λ r. ⌜ r .0 ≡ paintedStroke (self .0) new ⌝ }
     {
         let old = Parts::read(self.0);
         let parts = old.stroked(new);
@@ -399,7 +414,7 @@ impl Cell {
     }
 
     pub fn painted_marker(self, kind: MarkerKind, dir: Dir, dashed: bool) -> Cell
-        ensures { λ r. ⌜ r .0 ≡ markerCell kind dir dashed (self .0) ⌝ }
+        ensures { λ r. ⌜ r .0 ≡ paintedMarker (self .0) kind dir dashed ⌝ }
     {
         let old = Parts::read(self.0);
         let parts = old.marked(kind, dir, dashed);
@@ -408,7 +423,7 @@ impl Cell {
 
     // "Text replaces everything."
     pub fn painted_text(self, ch: u32) -> Cell
-        ensures { λ r. ⌜ r .0 ≡ textCell ch (self .0) ⌝ }
+        ensures { λ r. ⌜ r .0 ≡ paintedText (self .0) ch ⌝ }
     {
         Cell::text(ch)
     }

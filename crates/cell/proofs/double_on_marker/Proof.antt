@@ -4,21 +4,6 @@ use Rattle.cell.specs.OneCell.{doubleOnMarker}
 use Rattle.cell.proofs.double_on_marker.Statement.{statement}
 use Rattle.cell.proofs.double_on_marker.Tie as tie
 
-enum-told : tie.Need-enum-told
-enum-told c = search needs
-
-stem-requires : tie.Need-stem-requires
-stem-requires c κs = search needs
-
-max-requires : tie.Need-max-requires
-max-requires c κs = search needs
-
-enum-told-2 : tie.Need-enum-told-2
-enum-told-2 c = search needs
-
-enum-told-3 : tie.Need-enum-told-3
-enum-told-3 c = search needs
-
 returns : tie.Need-returns
 unfolding doubleOnMarker
 returns c = rw (c .before .before .enum-told .given .1, c .max .ensures, c .before .stem .ensures)
@@ -35,11 +20,11 @@ pub double-on-marker-spec : {M : Type 1} → statement M
 double-on-marker-spec =
     tie.close
     (tie.spec
-    enum-told
-    stem-requires
-    max-requires
-    enum-told-2
-    enum-told-3
+    (λ c. search needs)
+    (λ c κs. search needs)
+    (λ c κs. search needs)
+    (λ c. search needs)
+    (λ c. search needs)
     returns
     returns-2
     returns-3)

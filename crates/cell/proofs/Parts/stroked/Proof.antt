@@ -1,43 +1,19 @@
 -- `Parts::stroked` lays a stroke on each kind of parts, as the rule says.
 use borrow.Author.Needs.{needs}
-use Rattle.cell.specs.OneCell.{strokeOn}
+use Rattle.cell.specs.OneCell.{stroked}
 use Rattle.cell.proofs.Parts.stroked.Statement.{statement}
 use Rattle.cell.proofs.Parts.stroked.Tie as tie
 
-has-double-requires : tie.Need-has-double-requires
-has-double-requires c κs = search needs
-
-enum-told : tie.Need-enum-told
-enum-told c = search needs
-
-enum-known-self : tie.Need-enum-known-self
-enum-known-self c = search needs
-
-max-requires : tie.Need-max-requires
-max-requires c κs = search needs
-
-enum-known-self-2 : tie.Need-enum-known-self-2
-enum-known-self-2 c = search needs
-
-enum-told-2 : tie.Need-enum-told-2
-enum-told-2 c = search needs
-
-enum-known-self-3 : tie.Need-enum-known-self-3
-enum-known-self-3 c = search needs
-
-double-on-marker-requires : tie.Need-double-on-marker-requires
-double-on-marker-requires c κs = search needs
-
 returns : tie.Need-returns
-unfolding strokeOn
+unfolding stroked
 returns c = rw (c .enum-told .given .1)
 
 returns-2 : tie.Need-returns-2
-unfolding strokeOn
+unfolding stroked
 returns-2 c = rw (c .before .before .self .given .1, c .max .ensures)
 
 returns-3 : tie.Need-returns-3
-unfolding strokeOn
+unfolding stroked
 returns-3 c =
     rw (
       c .before .before .self2 .given .1,
@@ -46,7 +22,7 @@ returns-3 c =
     )
 
 returns-4 : tie.Need-returns-4
-unfolding strokeOn
+unfolding stroked
 returns-4 c =
     rw (
       c .before .before .self2 .given .1,
@@ -55,7 +31,7 @@ returns-4 c =
     )
 
 returns-5 : tie.Need-returns-5
-unfolding strokeOn
+unfolding stroked
 returns-5 c =
     rw (
       c .before .enum-told2 .given .1,
@@ -64,7 +40,7 @@ returns-5 c =
     )
 
 returns-6 : tie.Need-returns-6
-unfolding strokeOn
+unfolding stroked
 returns-6 c =
     rw (
       c .before .enum-told2 .given .1,
@@ -73,7 +49,7 @@ returns-6 c =
     )
 
 returns-7 : tie.Need-returns-7
-unfolding strokeOn
+unfolding stroked
 returns-7 c =
     rw (
       c .before .before .before .self3 .given .1,
@@ -82,7 +58,7 @@ returns-7 c =
     ) (c .double-on-marker .ensures)
 
 returns-8 : tie.Need-returns-8
-unfolding strokeOn
+unfolding stroked
 returns-8 c =
     rw (
       c .before .before .self3 .given .1,
@@ -94,14 +70,14 @@ pub stroked-spec : {M : Type 1} → statement M
 stroked-spec =
     tie.close
     (tie.spec
-    has-double-requires
-    enum-told
-    enum-known-self
-    max-requires
-    enum-known-self-2
-    enum-told-2
-    enum-known-self-3
-    double-on-marker-requires
+    (λ c κs. search needs)
+    (λ c. search needs)
+    (λ c. search needs)
+    (λ c κs. search needs)
+    (λ c. search needs)
+    (λ c. search needs)
+    (λ c. search needs)
+    (λ c κs. search needs)
     returns
     returns-2
     returns-3

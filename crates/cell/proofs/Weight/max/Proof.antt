@@ -4,12 +4,6 @@ use Rattle.cell.proofs.Laws.{heavier-first, heavier-second}
 use Rattle.cell.proofs.Weight.max.Statement.{statement}
 use Rattle.cell.proofs.Weight.max.Tie as tie
 
-number-requires : tie.Need-number-requires
-number-requires c κs = search needs
-
-number-requires-2 : tie.Need-number-requires-2
-number-requires-2 c κs = search needs
-
 returns : tie.Need-returns
 returns c =
     heavier-first (c .before .before .before .args .self) (c .before .before .before .args .other)
@@ -21,4 +15,4 @@ returns-2 c =
     (search needs)
 
 pub max-spec : {M : Type 1} → statement M
-max-spec = tie.close (tie.spec number-requires number-requires-2 returns returns-2)
+max-spec = tie.close (tie.spec (λ c κs. search needs) (λ c κs. search needs) returns returns-2)
