@@ -19,21 +19,21 @@ use Rattle.canvas.specs.Row.{emptyContinuation, blankLead, put, letterRo
 abbrev no-text : List ℕ
 no-text = 0 ∷ 2 ∷ 3 ∷ 4 ∷ []
 
-lead-of-parts : (ranges : List ℕ) (p : Parts) → OneOf no-text (tagOf the-type p) → false ≡ leadParts ranges p
-lead-of-parts ranges Empty h = refl
-lead-of-parts ranges (Text ch) h = absurd (miss no-text 1 tt h)
-lead-of-parts ranges Continuation h = refl
-lead-of-parts ranges (Stroke arms) h = refl
-lead-of-parts ranges (Marker kind dir dashed) h = refl
+lead-of-parts : (p : Parts) (ranges : List ℕ) → OneOf no-text (tagOf the-type p) → false ≡ leadParts p ranges
+lead-of-parts Empty ranges h = refl
+lead-of-parts (Text ch) ranges h = absurd (miss no-text 1 tt h)
+lead-of-parts Continuation ranges h = refl
+lead-of-parts (Stroke arms) ranges h = refl
+lead-of-parts (Marker kind dir dashed) ranges h = refl
 
 -- a word that reads as no text is no wide lead
 pub no-lead :
     (ranges : List ℕ) (word : ℕ) (p : Parts) →
     p ≡ read word →
     OneOf no-text (tagOf the-type p) →
-    false ≡ isWideLead ranges word
+    false ≡ isWideLead word ranges
 unfolding isWideLead
-no-lead ranges word p e h = rw (← e) (lead-of-parts ranges p h)
+no-lead ranges word p e h = rw (← e) (lead-of-parts p ranges h)
 
 -- the numbers of the variants of `Parts` that are no continuation
 abbrev others : List ℕ
@@ -65,27 +65,27 @@ pub past-end : (x : ℕ) (row : List ℕ) → length row ≤ x → isContinuatio
 unfolding isContinuation read
 past-end x row h = rw (List·getD-eq-default row 0 h)
 
-module _ (ranges : List ℕ) (x : ℕ) (row : List ℕ) where
+module _ (row ranges : List ℕ) (x : ℕ) where
   -- a wide lead with its continuation: the continuation is emptied
   pub emptied :
-      isWideLead ranges (getD row x 0) ≡ true →
+      isWideLead (getD row x 0) ranges ≡ true →
       isContinuation (getD row (x + 1) 0) ≡ true →
-      set row (x + 1) 0 ≡ emptyContinuation ranges x row
+      set row (x + 1) 0 ≡ emptyContinuation row ranges x
   unfolding emptyContinuation pack
   emptied lead next = simp (lead, next)
 
   -- what is no wide lead has nothing to empty
-  pub no-lead-here : isWideLead ranges (getD row x 0) ≡ false → row ≡ emptyContinuation ranges x row
+  pub no-lead-here : isWideLead (getD row x 0) ranges ≡ false → row ≡ emptyContinuation row ranges x
   unfolding emptyContinuation
   no-lead-here h = simp h
 
   -- and nor has a wide lead without its continuation
-  pub no-continuation-next : isContinuation (getD row (x + 1) 0) ≡ false → row ≡ emptyContinuation ranges x row
+  pub no-continuation-next : isContinuation (getD row (x + 1) 0) ≡ false → row ≡ emptyContinuation row ranges x
   unfolding emptyContinuation
   no-continuation-next h = simp (h, and-false)
 
   -- and nor has the last column
-  pub last-column : length row ≤ x + 1 → row ≡ emptyContinuation ranges x row
+  pub last-column : length row ≤ x + 1 → row ≡ emptyContinuation row ranges x
   last-column h = no-continuation-next (past-end (x + 1) row h)
 
   -- a continuation with its lead: the lead becomes a space
@@ -94,79 +94,76 @@ module _ (ranges : List ℕ) (x : ℕ) (row : List ℕ) where
       cell ≡ pack (Text space) →
       0 < x →
       isContinuation (getD row x 0) ≡ true →
-      isWideLead ranges (getD row (x - 1) 0) ≡ true →
-      set row (x - 1) cell ≡ blankLead ranges x row
+      isWideLead (getD row (x - 1) 0) ranges ≡ true →
+      set row (x - 1) cell ≡ blankLead row ranges x
   unfolding blankLead
   blanked cell e h here lead = simp (e, here, lt-ltb _ _ h, lead)
 
   -- what is no continuation has no lead
-  pub no-continuation-here : isContinuation (getD row x 0) ≡ false → row ≡ blankLead ranges x row
+  pub no-continuation-here : isContinuation (getD row x 0) ≡ false → row ≡ blankLead row ranges x
   unfolding blankLead
   no-continuation-here h = simp h
 
   -- and nor has a continuation after another cell
-  pub no-lead-before : isWideLead ranges (getD row (x - 1) 0) ≡ false → row ≡ blankLead ranges x row
+  pub no-lead-before : isWideLead (getD row (x - 1) 0) ranges ≡ false → row ≡ blankLead row ranges x
   unfolding blankLead
   no-lead-before h = simp (h, and-false)
 
   -- and nor has the first column
-  pub first-column : x ≤ 0 → row ≡ blankLead ranges x row
+  pub first-column : x ≤ 0 → row ≡ blankLead row ranges x
   unfolding blankLead
   first-column h = simp (le-ltb 0 x h, and-false)
 
   module _ (new : ℕ) where
     -- an equal cell changes nothing
-    pub put-equal : getD row x 0 ≡ new → row ≡ put ranges x new row
+    pub put-equal : getD row x 0 ≡ new → row ≡ put row ranges x new
     unfolding put
     put-equal e = simp (eq-eqb _ _ e)
 
     -- any other cell is written after its neighbours are mended
     pub put-other :
-        (emptied blanked : List ℕ) →
+        (mended : List ℕ) →
         (getD row x 0 ≡ new → ⊥) →
-        emptied ≡ emptyContinuation ranges x row →
-        blanked ≡ blankLead ranges x emptied →
-        set blanked x new ≡ put ranges x new row
+        mended ≡ blankLead (emptyContinuation row ranges x) ranges x →
+        set mended x new ≡ put row ranges x new
     unfolding put
-    put-other emptied blanked n e b = simp (ne-eqb _ _ n, b, e)
+    put-other mended n e = simp (ne-eqb _ _ n, e)
 
-module _ (ranges : List ℕ) (x ch : ℕ) (row : List ℕ) where
+module _ (row ranges : List ℕ) (x ch : ℕ) where
   -- a wide glyph with a column to its right is a lead and a continuation
   pub wide-inside :
-      (lead last : List ℕ) →
+      (last : List ℕ) →
       x + 1 < length row →
-      lead ≡ letterRow ranges x ch row →
-      last ≡ put ranges (x + 1) 0x40200000 lead →
-      last ≡ wideRow ranges x ch row
+      last ≡ put (letterRow row ranges x ch) ranges (x + 1) 0x40200000 →
+      last ≡ wideRow row ranges x ch
   unfolding wideRow pack
-  wide-inside lead last h e d = simp (lt-ltb _ _ h) (rw (← e) d)
+  wide-inside last h e = simp (lt-ltb _ _ h) e
 
   -- a wide glyph in the last column is a space
   pub wide-last :
       (last : List ℕ) →
       length row ≤ x + 1 →
-      last ≡ letterRow ranges x space row →
-      last ≡ wideRow ranges x ch row
+      last ≡ letterRow row ranges x space →
+      last ≡ wideRow row ranges x ch
   unfolding wideRow
   wide-last last h e = simp (le-ltb _ _ h) e
 
-  module _ (width : ℕ) (e : width ≡ widthOf ranges ch) where
-    -- width 0 paints nothing
-    pub text-none : width ≡ 0 → row ≡ textRow ranges x ch row
-    unfolding textRow
-    text-none h = simp (sym e, h)
+  -- width 0 paints nothing
+  pub text-none : widthOf ranges ch ≡ 0 → row ≡ textRow row ranges x ch
+  unfolding textRow
+  text-none h = simp h
 
-    -- width 2 is a wide glyph
-    pub text-wide : (last : List ℕ) → width ≡ 2 → last ≡ wideRow ranges x ch row → last ≡ textRow ranges x ch row
-    unfolding textRow
-    text-wide last h d = simp (sym e, h) d
+  -- width 2 is a wide glyph
+  pub text-wide : (last : List ℕ) → widthOf ranges ch ≡ 2 → last ≡ wideRow row ranges x ch → last ≡ textRow row ranges x ch
+  unfolding textRow
+  text-wide last h e = simp h e
 
-    -- any other width is one column
-    pub text-letter :
-        (last : List ℕ) →
-        (width ≡ 0 → ⊥) →
-        (width ≡ 2 → ⊥) →
-        last ≡ letterRow ranges x ch row →
-        last ≡ textRow ranges x ch row
-    unfolding textRow
-    text-letter last n m d = simp (sym e, ne-eqb _ _ n, ne-eqb _ _ m) d
+  -- any other width is one column
+  pub text-letter :
+      (last : List ℕ) →
+      (widthOf ranges ch ≡ 0 → ⊥) →
+      (widthOf ranges ch ≡ 2 → ⊥) →
+      last ≡ letterRow row ranges x ch →
+      last ≡ textRow row ranges x ch
+  unfolding textRow
+  text-letter last n m e = simp (ne-eqb _ _ n, ne-eqb _ _ m) e

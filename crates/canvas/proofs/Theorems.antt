@@ -14,6 +14,7 @@ use Rattle.cell.specs.declared.MarkerKind.{MarkerKind}
 use Rattle.cell.specs.declared.Dir.{Dir}
 use Rattle.cell.specs.declared.Parts.the-variants.{Text, Continuation}
 use Rattle.cell.specs.OneCell.{pack, readText, read, Packed, paintedText}
+use Rattle.cell.proofs.Laws.{cond-holds}
 use Rattle.cell.proofs.Theorems.{empty-packed, continuation-packed, stroke-packed, marker-packed, text-packed}
 use Rattle.glyph.specs.Width.{bisect, widthOf}
 use Rattle.canvas.specs.Row.{space, isWideLead, isContinuation, emptyContinuation, blankLead}
@@ -22,121 +23,116 @@ use Rattle.canvas.specs.Cells.{AllPacked}
 use Rattle.canvas.specs.ProofTable.{ProofTableRow}
 use Rattle.canvas.proofs.Laws.{past-end, last-column, no-continuation-here}
 
--- what holds of both holds of the one that a test picks
-pick-holds : {A : Type 0} (P : A → Type 0) (test : Bool) {a b : A} → P a → P b → P (cond test a b)
-pick-holds P true p q = p
-pick-holds P false p q = q
-
 -- The length.
 
 -- a row as long as another
 abbrev AsLong : List ℕ → List ℕ → Type 0
 AsLong row other = length other ≡ length row
 
-empty-length : (ranges : List ℕ) (x : ℕ) (row : List ℕ) → length (emptyContinuation ranges x row) ≡ length row
+empty-length : (row ranges : List ℕ) (x : ℕ) → length (emptyContinuation row ranges x) ≡ length row
 unfolding emptyContinuation
-empty-length ranges x row =
-    pick-holds (AsLong row) (isWideLead ranges (getD row x 0) && isContinuation (getD row (x + 1) 0))
+empty-length row ranges x =
+    cond-holds (AsLong row) (isWideLead (getD row x 0) ranges && isContinuation (getD row (x + 1) 0))
     (length-set row _ _)
     refl
 
-blank-length : (ranges : List ℕ) (x : ℕ) (row : List ℕ) → length (blankLead ranges x row) ≡ length row
+blank-length : (row ranges : List ℕ) (x : ℕ) → length (blankLead row ranges x) ≡ length row
 unfolding blankLead
-blank-length ranges x row =
-    pick-holds (AsLong row)
-    (isContinuation (getD row x 0) && (ltb 0 x && isWideLead ranges (getD row (x - 1) 0)))
+blank-length row ranges x =
+    cond-holds (AsLong row)
+    (isContinuation (getD row x 0) && (ltb 0 x && isWideLead (getD row (x - 1) 0) ranges))
     (length-set row _ _)
     refl
 
 -- A cell put into a row keeps the row's length.
-pub put-length : (ranges : List ℕ) (x new : ℕ) (row : List ℕ) → length (put ranges x new row) ≡ length row
+pub put-length : (row ranges : List ℕ) (x new : ℕ) → length (put row ranges x new) ≡ length row
 unfolding put
-put-length ranges x new row =
-    pick-holds (AsLong row) (eqb (getD row x 0) new)
+put-length row ranges x new =
+    cond-holds (AsLong row) (eqb (getD row x 0) new)
     refl
-    (let emptied = emptyContinuation ranges x row in
-    length-set (blankLead ranges x emptied) x new ∙ blank-length ranges x emptied ∙ empty-length ranges x row)
+    (let emptied = emptyContinuation row ranges x in
+    length-set (blankLead emptied ranges x) x new ∙ blank-length emptied ranges x ∙ empty-length row ranges x)
 
 -- So does a stroke.
 pub stroke-length :
-    (ranges : List ℕ) (x : ℕ) (arms : Arms) (row : List ℕ) →
-    length (strokeRow ranges x arms row) ≡ length row
+    (row ranges : List ℕ) (x : ℕ) (arms : Arms) →
+    length (strokeRow row ranges x arms) ≡ length row
 unfolding strokeRow
-stroke-length ranges x arms row = put-length ranges x _ row
+stroke-length row ranges x arms = put-length row ranges x _
 
 -- So does a marker.
 pub marker-length :
-    (ranges : List ℕ) (x : ℕ) (kind : MarkerKind) (dir : Dir) (dashed : Bool) (row : List ℕ) →
-    length (markerRow ranges x kind dir dashed row) ≡ length row
+    (row ranges : List ℕ) (x : ℕ) (kind : MarkerKind) (dir : Dir) (dashed : Bool) →
+    length (markerRow row ranges x kind dir dashed) ≡ length row
 unfolding markerRow
-marker-length ranges x kind dir dashed row = put-length ranges x _ row
+marker-length row ranges x kind dir dashed = put-length row ranges x _
 
-letter-length : (ranges : List ℕ) (x ch : ℕ) (row : List ℕ) → length (letterRow ranges x ch row) ≡ length row
+letter-length : (row ranges : List ℕ) (x ch : ℕ) → length (letterRow row ranges x ch) ≡ length row
 unfolding letterRow
-letter-length ranges x ch row = put-length ranges x _ row
+letter-length row ranges x ch = put-length row ranges x _
 
-wide-length : (ranges : List ℕ) (x ch : ℕ) (row : List ℕ) → length (wideRow ranges x ch row) ≡ length row
+wide-length : (row ranges : List ℕ) (x ch : ℕ) → length (wideRow row ranges x ch) ≡ length row
 unfolding wideRow
-wide-length ranges x ch row =
-    pick-holds (AsLong row) (ltb (x + 1) (length row))
-    (put-length ranges (x + 1) (pack Continuation) (letterRow ranges x ch row) ∙ letter-length ranges x ch row)
-    (letter-length ranges x space row)
+wide-length row ranges x ch =
+    cond-holds (AsLong row) (ltb (x + 1) (length row))
+    (put-length (letterRow row ranges x ch) ranges (x + 1) (pack Continuation) ∙ letter-length row ranges x ch)
+    (letter-length row ranges x space)
 
 -- So does a glyph.
-pub text-length : (ranges : List ℕ) (x ch : ℕ) (row : List ℕ) → length (textRow ranges x ch row) ≡ length row
+pub text-length : (row ranges : List ℕ) (x ch : ℕ) → length (textRow row ranges x ch) ≡ length row
 unfolding textRow
-text-length ranges x ch row =
-    pick-holds (AsLong row) (eqb (widthOf ranges ch) 0)
+text-length row ranges x ch =
+    cond-holds (AsLong row) (eqb (widthOf ranges ch) 0)
     refl
-    (pick-holds (AsLong row) (eqb (widthOf ranges ch) 2) (wide-length ranges x ch row) (letter-length ranges x ch row))
+    (cond-holds (AsLong row) (eqb (widthOf ranges ch) 2) (wide-length row ranges x ch) (letter-length row ranges x ch))
 
 -- "Writes off the band vanish".
 
 -- A cell put past the row's end changes nothing.
-pub put-off : (ranges : List ℕ) (x new : ℕ) (row : List ℕ) → length row ≤ x → put ranges x new row ≡ row
+pub put-off : (row ranges : List ℕ) (x new : ℕ) → length row ≤ x → put row ranges x new ≡ row
 unfolding put
-put-off ranges x new row h =
-    let e : row ≡ emptyContinuation ranges x row = last-column ranges x row (omega arith) in
-    let b : row ≡ blankLead ranges x row = no-continuation-here ranges x row (past-end x row h) in
-    pick-holds (λ (r : List ℕ). r ≡ row) (eqb (getD row x 0) new)
+put-off row ranges x new h =
+    let e : row ≡ emptyContinuation row ranges x = last-column row ranges x (omega arith) in
+    let b : row ≡ blankLead row ranges x = no-continuation-here row ranges x (past-end x row h) in
+    cond-holds (λ (r : List ℕ). r ≡ row) (eqb (getD row x 0) new)
     refl
     (rw (← e, ← b) (set-out row x new h))
 
 -- Nor does a stroke.
 pub stroke-off :
-    (ranges : List ℕ) (x : ℕ) (arms : Arms) (row : List ℕ) →
+    (row ranges : List ℕ) (x : ℕ) (arms : Arms) →
     length row ≤ x →
-    strokeRow ranges x arms row ≡ row
+    strokeRow row ranges x arms ≡ row
 unfolding strokeRow
-stroke-off ranges x arms row h = put-off ranges x _ row h
+stroke-off row ranges x arms h = put-off row ranges x _ h
 
 -- Nor does a marker.
 pub marker-off :
-    (ranges : List ℕ) (x : ℕ) (kind : MarkerKind) (dir : Dir) (dashed : Bool) (row : List ℕ) →
+    (row ranges : List ℕ) (x : ℕ) (kind : MarkerKind) (dir : Dir) (dashed : Bool) →
     length row ≤ x →
-    markerRow ranges x kind dir dashed row ≡ row
+    markerRow row ranges x kind dir dashed ≡ row
 unfolding markerRow
-marker-off ranges x kind dir dashed row h = put-off ranges x _ row h
+marker-off row ranges x kind dir dashed h = put-off row ranges x _ h
 
 -- Nor does a glyph of one column.
-pub letter-off : (ranges : List ℕ) (x ch : ℕ) (row : List ℕ) → length row ≤ x → letterRow ranges x ch row ≡ row
+pub letter-off : (row ranges : List ℕ) (x ch : ℕ) → length row ≤ x → letterRow row ranges x ch ≡ row
 unfolding letterRow
-letter-off ranges x ch row h = put-off ranges x _ row h
+letter-off row ranges x ch h = put-off row ranges x _ h
 
 -- Nor does a glyph of two.
-pub wide-off : (ranges : List ℕ) (x ch : ℕ) (row : List ℕ) → length row ≤ x → wideRow ranges x ch row ≡ row
+pub wide-off : (row ranges : List ℕ) (x ch : ℕ) → length row ≤ x → wideRow row ranges x ch ≡ row
 unfolding wideRow
-wide-off ranges x ch row h =
+wide-off row ranges x ch h =
     let past : length row ≤ x + 1 = omega arith in
-    simp (le-ltb _ _ past) (letter-off ranges x space row h)
+    simp (le-ltb _ _ past) (letter-off row ranges x space h)
 
 -- Nor does a glyph of any width.
-pub text-off : (ranges : List ℕ) (x ch : ℕ) (row : List ℕ) → length row ≤ x → textRow ranges x ch row ≡ row
+pub text-off : (row ranges : List ℕ) (x ch : ℕ) → length row ≤ x → textRow row ranges x ch ≡ row
 unfolding textRow
-text-off ranges x ch row h =
-    pick-holds (λ (r : List ℕ). r ≡ row) (eqb (widthOf ranges ch) 0)
+text-off row ranges x ch h =
+    cond-holds (λ (r : List ℕ). r ≡ row) (eqb (widthOf ranges ch) 0)
     refl
-    (pick-holds (λ (r : List ℕ). r ≡ row) (eqb (widthOf ranges ch) 2) (wide-off ranges x ch row h) (letter-off ranges x ch row h))
+    (cond-holds (λ (r : List ℕ). r ≡ row) (eqb (widthOf ranges ch) 2) (wide-off row ranges x ch h) (letter-off row ranges x ch h))
 
 -- Every cell that is written is a packing.
 
@@ -157,82 +153,82 @@ space-packed : Packed (pack (Text space))
 unfolding paintedText
 space-packed = text-packed space 0 (omega arith)
 
-empty-keeps : (ranges : List ℕ) (x : ℕ) (row : List ℕ) → AllPacked row → AllPacked (emptyContinuation ranges x row)
+empty-keeps : (row ranges : List ℕ) (x : ℕ) → AllPacked row → AllPacked (emptyContinuation row ranges x)
 unfolding emptyContinuation pack
-empty-keeps ranges x row all =
-    pick-holds AllPacked (isWideLead ranges (getD row x 0) && isContinuation (getD row (x + 1) 0))
+empty-keeps row ranges x all =
+    cond-holds AllPacked (isWideLead (getD row x 0) ranges && isContinuation (getD row (x + 1) 0))
     (set-packed (x + 1) _ row all empty-packed)
     all
 
-blank-keeps : (ranges : List ℕ) (x : ℕ) (row : List ℕ) → AllPacked row → AllPacked (blankLead ranges x row)
+blank-keeps : (row ranges : List ℕ) (x : ℕ) → AllPacked row → AllPacked (blankLead row ranges x)
 unfolding blankLead
-blank-keeps ranges x row all =
-    pick-holds AllPacked
-    (isContinuation (getD row x 0) && (ltb 0 x && isWideLead ranges (getD row (x - 1) 0)))
+blank-keeps row ranges x all =
+    cond-holds AllPacked
+    (isContinuation (getD row x 0) && (ltb 0 x && isWideLead (getD row (x - 1) 0) ranges))
     (set-packed (x - 1) _ row all space-packed)
     all
 
 -- A packing put into a row of packings leaves a row of packings.
 pub put-packed :
-    (ranges : List ℕ) (x new : ℕ) (row : List ℕ) →
+    (row ranges : List ℕ) (x new : ℕ) →
     AllPacked row →
     Packed new →
-    AllPacked (put ranges x new row)
+    AllPacked (put row ranges x new)
 unfolding put
-put-packed ranges x new row all p =
-    pick-holds AllPacked (eqb (getD row x 0) new)
+put-packed row ranges x new all p =
+    cond-holds AllPacked (eqb (getD row x 0) new)
     all
-    (let emptied = emptyContinuation ranges x row in
-    set-packed x new (blankLead ranges x emptied) (blank-keeps ranges x emptied (empty-keeps ranges x row all)) p)
+    (let emptied = emptyContinuation row ranges x in
+    set-packed x new (blankLead emptied ranges x) (blank-keeps emptied ranges x (empty-keeps row ranges x all)) p)
 
 -- A stroke on a row of packings leaves a row of packings.
 pub stroke-packed-row :
-    (ranges : List ℕ) (x : ℕ) (arms : Arms) (row : List ℕ) →
+    (row ranges : List ℕ) (x : ℕ) (arms : Arms) →
     AllPacked row →
-    AllPacked (strokeRow ranges x arms row)
+    AllPacked (strokeRow row ranges x arms)
 unfolding strokeRow
-stroke-packed-row ranges x arms row all =
-    put-packed ranges x _ row all (stroke-packed arms _ (at-packed x row all))
+stroke-packed-row row ranges x arms all =
+    put-packed row ranges x _ all (stroke-packed arms _ (at-packed x row all))
 
 -- So does a marker.
 pub marker-packed-row :
-    (ranges : List ℕ) (x : ℕ) (kind : MarkerKind) (dir : Dir) (dashed : Bool) (row : List ℕ) →
+    (row ranges : List ℕ) (x : ℕ) (kind : MarkerKind) (dir : Dir) (dashed : Bool) →
     AllPacked row →
-    AllPacked (markerRow ranges x kind dir dashed row)
+    AllPacked (markerRow row ranges x kind dir dashed)
 unfolding markerRow
-marker-packed-row ranges x kind dir dashed row all =
-    put-packed ranges x _ row all (marker-packed kind dir dashed _ (at-packed x row all))
+marker-packed-row row ranges x kind dir dashed all =
+    put-packed row ranges x _ all (marker-packed kind dir dashed _ (at-packed x row all))
 
 letter-packed-row :
-    (ranges : List ℕ) (x ch : ℕ) (row : List ℕ) →
+    (row ranges : List ℕ) (x ch : ℕ) →
     ch ≤ 0x10FFFF →
     AllPacked row →
-    AllPacked (letterRow ranges x ch row)
+    AllPacked (letterRow row ranges x ch)
 unfolding letterRow
-letter-packed-row ranges x ch row valid all = put-packed ranges x _ row all (text-packed ch _ valid)
+letter-packed-row row ranges x ch valid all = put-packed row ranges x _ all (text-packed ch _ valid)
 
 wide-packed-row :
-    (ranges : List ℕ) (x ch : ℕ) (row : List ℕ) →
+    (row ranges : List ℕ) (x ch : ℕ) →
     ch ≤ 0x10FFFF →
     AllPacked row →
-    AllPacked (wideRow ranges x ch row)
+    AllPacked (wideRow row ranges x ch)
 unfolding wideRow pack
-wide-packed-row ranges x ch row valid all =
-    pick-holds AllPacked (ltb (x + 1) (length row))
-    (put-packed ranges (x + 1) _ (letterRow ranges x ch row) (letter-packed-row ranges x ch row valid all) continuation-packed)
-    (letter-packed-row ranges x space row (omega arith) all)
+wide-packed-row row ranges x ch valid all =
+    cond-holds AllPacked (ltb (x + 1) (length row))
+    (put-packed (letterRow row ranges x ch) ranges (x + 1) _ (letter-packed-row row ranges x ch valid all) continuation-packed)
+    (letter-packed-row row ranges x space (omega arith) all)
 
 -- So does a glyph of a Unicode code point.
 pub text-packed-row :
-    (ranges : List ℕ) (x ch : ℕ) (row : List ℕ) →
+    (row ranges : List ℕ) (x ch : ℕ) →
     ch ≤ 0x10FFFF →
     AllPacked row →
-    AllPacked (textRow ranges x ch row)
+    AllPacked (textRow row ranges x ch)
 unfolding textRow
-text-packed-row ranges x ch row valid all =
-    pick-holds AllPacked (eqb (widthOf ranges ch) 0)
+text-packed-row row ranges x ch valid all =
+    cond-holds AllPacked (eqb (widthOf ranges ch) 0)
     all
-    (pick-holds AllPacked (eqb (widthOf ranges ch) 2) (wide-packed-row ranges x ch row valid all) (letter-packed-row ranges x ch row valid all))
+    (cond-holds AllPacked (eqb (widthOf ranges ch) 2) (wide-packed-row row ranges x ch valid all) (letter-packed-row row ranges x ch valid all))
 
 -- The cases P5 and P6 of the proof table hold.
 pub proof-table-row : ProofTableRow

@@ -14,7 +14,7 @@ use cell::Parts;
 const SPACE: u32 = 0x20;
 
 fn is_wide_lead(word: u32, ranges: &[u32]) -> bool
-    ensures { λ r. ⌜ r ≡ isWideLead (now (ranges .entry)) word ⌝ }
+    ensures { λ r. ⌜ r ≡ isWideLead word (now (ranges .entry)) ⌝ }
 {
     let Parts::Text(ch) = Parts::read(word) else {
         return false;
@@ -37,7 +37,7 @@ fn is_continuation(word: u32) -> bool
 // "Overwriting a wide lead empties its continuation"
 fn empty_continuation(row: &mut [u32], ranges: &[u32], x: usize)
     requires { ⌜ x < length (now row) ⌝ }
-    ensures { λ _. ⌜ now (row .exit) ≡ emptyContinuation (now (ranges .entry)) x (now (row .entry)) ⌝ }
+    ensures { λ _. ⌜ now (row .exit) ≡ emptyContinuation (now (row .entry)) (now (ranges .entry)) x ⌝ }
 {
     let next = x + 1;
     if next < row.len() {
@@ -52,7 +52,7 @@ fn empty_continuation(row: &mut [u32], ranges: &[u32], x: usize)
 // "overwriting a continuation by another cell turns its lead into a space": half a glyph cannot be drawn.
 fn blank_lead(row: &mut [u32], ranges: &[u32], x: usize)
     requires { ⌜ x < length (now row) ⌝ }
-    ensures { λ _. ⌜ now (row .exit) ≡ blankLead (now (ranges .entry)) x (now (row .entry)) ⌝ }
+    ensures { λ _. ⌜ now (row .exit) ≡ blankLead (now (row .entry)) (now (ranges .entry)) x ⌝ }
 {
     if 0 < x {
         let before = x - 1;
@@ -67,7 +67,7 @@ fn blank_lead(row: &mut [u32], ranges: &[u32], x: usize)
 // Every write goes through here, so that wide glyphs stay whole.
 fn put(row: &mut [u32], ranges: &[u32], x: usize, new: u32)
     requires { ⌜ x < length (now row) ⌝ }
-    ensures { λ _. ⌜ now (row .exit) ≡ put (now (ranges .entry)) x new (now (row .entry)) ⌝ }
+    ensures { λ _. ⌜ now (row .exit) ≡ put (now (row .entry)) (now (ranges .entry)) x new ⌝ }
 {
     if row[x] == new {
         return;
@@ -78,7 +78,7 @@ fn put(row: &mut [u32], ranges: &[u32], x: usize, new: u32)
 }
 
 pub fn stroke(row: &mut [u32], ranges: &[u32], x: usize, arms: Arms)
-    ensures { λ _. ⌜ now (row .exit) ≡ strokeRow (now (ranges .entry)) x arms (now (row .entry)) ⌝ }
+    ensures { λ _. ⌜ now (row .exit) ≡ strokeRow (now (row .entry)) (now (ranges .entry)) x arms ⌝ }
 {
     if x < row.len() {
         let old = Cell(row[x]);
@@ -88,7 +88,7 @@ pub fn stroke(row: &mut [u32], ranges: &[u32], x: usize, arms: Arms)
 }
 
 pub fn marker(row: &mut [u32], ranges: &[u32], x: usize, kind: MarkerKind, dir: Dir, dashed: bool)
-    ensures { λ _. ⌜ now (row .exit) ≡ markerRow (now (ranges .entry)) x kind dir dashed (now (row .entry)) ⌝ }
+    ensures { λ _. ⌜ now (row .exit) ≡ markerRow (now (row .entry)) (now (ranges .entry)) x kind dir dashed ⌝ }
 {
     if x < row.len() {
         let old = Cell(row[x]);
@@ -99,7 +99,7 @@ pub fn marker(row: &mut [u32], ranges: &[u32], x: usize, kind: MarkerKind, dir: 
 
 // A glyph whatever its width, in one column.
 fn letter(row: &mut [u32], ranges: &[u32], x: usize, ch: u32)
-    ensures { λ _. ⌜ now (row .exit) ≡ letterRow (now (ranges .entry)) x ch (now (row .entry)) ⌝ }
+    ensures { λ _. ⌜ now (row .exit) ≡ letterRow (now (row .entry)) (now (ranges .entry)) x ch ⌝ }
 {
     if x < row.len() {
         let old = Cell(row[x]);
@@ -109,8 +109,8 @@ fn letter(row: &mut [u32], ranges: &[u32], x: usize, ch: u32)
 }
 
 // "width 2 in the last column paints a space, elsewhere lead and continuation"
-fn wide_text(row: &mut [u32], ranges: &[u32], x: usize, ch: u32)
-    ensures { λ _. ⌜ now (row .exit) ≡ wideRow (now (ranges .entry)) x ch (now (row .entry)) ⌝ }
+fn wide(row: &mut [u32], ranges: &[u32], x: usize, ch: u32)
+    ensures { λ _. ⌜ now (row .exit) ≡ wideRow (now (row .entry)) (now (ranges .entry)) x ch ⌝ }
 {
     if x < row.len() {
         let next = x + 1;
@@ -125,12 +125,12 @@ fn wide_text(row: &mut [u32], ranges: &[u32], x: usize, ch: u32)
 
 // A glyph with the width that the image gives it: "Width 0 paints nothing".
 pub fn text(row: &mut [u32], ranges: &[u32], x: usize, ch: u32)
-    ensures { λ _. ⌜ now (row .exit) ≡ textRow (now (ranges .entry)) x ch (now (row .entry)) ⌝ }
+    ensures { λ _. ⌜ now (row .exit) ≡ textRow (now (row .entry)) (now (ranges .entry)) x ch ⌝ }
 {
     let width = glyph::char_width(ranges, ch);
     match width {
         0 => {}
-        2 => wide_text(row, ranges, x, ch),
+        2 => wide(row, ranges, x, ch),
         _ => letter(row, ranges, x, ch),
     }
 }

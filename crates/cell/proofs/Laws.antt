@@ -153,9 +153,9 @@ read-text ch w h e =
 -- A stroke or a marker on valid parts leaves valid parts.
 
 -- what holds of both holds of the one that a test picks
-pick-holds : {A : Type 0} (P : A → Type 0) (t : Bool) {a b : A} → P a → P b → P (cond t a b)
-pick-holds P true p q = p
-pick-holds P false p q = q
+pub cond-holds : {A : Type 0} (P : A → Type 0) (t : Bool) {a b : A} → P a → P b → P (cond t a b)
+cond-holds P true p q = p
+cond-holds P false p q = q
 
 double-valid : (new : Arms) (k : MarkerKind) (d : Dir) → Valid (doubleOnMarker new k d)
 unfolding Valid doubleOnMarker
@@ -166,10 +166,10 @@ double-valid new Dummy d = tt
 pub stroke-valid : (new : Arms) (p : Parts) → Valid p → Valid (stroked p new)
 unfolding Valid stroked
 stroke-valid new Empty h = tt
-stroke-valid new (Text ch) h = pick-holds Valid (hasDouble new) tt h
-stroke-valid new Continuation h = pick-holds Valid (hasDouble new) tt h
+stroke-valid new (Text ch) h = cond-holds Valid (hasDouble new) tt h
+stroke-valid new Continuation h = cond-holds Valid (hasDouble new) tt h
 stroke-valid new (Stroke old) h = tt
-stroke-valid new (Marker k d x) h = pick-holds Valid (hasDouble new) (double-valid new k d) h
+stroke-valid new (Marker k d x) h = cond-holds Valid (hasDouble new) (double-valid new k d) h
 
 pub marker-valid :
     (kind : MarkerKind) (dir : Dir) (dashed : Bool) (p : Parts) →

@@ -21,7 +21,7 @@ pub one-less :
 unfolding filled
 one-less bytes words r k n v h i e =
     let left : n - k ≡ suc (n - (k + 1)) = omega arith in
-    rw (e, add-one) (rw (left, add-one) at i)
+    rw (e, add-one k) (rw (left, add-one k) at i)
 
 -- after the last turn none is left
 pub none-left : (bytes words r : List ℕ) (k n : ℕ) → n ≤ k → filled bytes words k (n - k) ≡ r → words ≡ r

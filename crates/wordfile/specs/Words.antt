@@ -4,7 +4,7 @@ use mathlib.Core.List.{List}
 use lib.ListN.{getD, set}
 
 -- word k of a file's bytes
-unfoldable pub wordAt : List ℕ → ℕ → ℕ
+abbrev pub wordAt : List ℕ → ℕ → ℕ
 wordAt bytes k =
     0x1000000 * getD bytes (4 * k) 0 + 0x10000 * getD bytes (4 * k + 1) 0 + 0x100 * getD bytes (4 * k + 2) 0
     + getD bytes (4 * k + 3) 0

@@ -4,7 +4,8 @@ ghost use Prim.Native.Nat.{_+_, _*_, _/_, _≤_, _<_, min};
 ghost use lib.ListN.{length, getD};
 ghost use Rattle.wordfile.specs.Words.{wordAt, filled};
 
-fn wide(b: u8) -> u32
+// A byte as a number: four of them, each at its own place, make a word that does not wrap.
+fn number(b: u8) -> u32
     ensures { λ r. ⌜ (r ≡ b) × (r < 256) ⌝ }
 {
     b as u32
@@ -16,10 +17,10 @@ pub fn word_at(bytes: &[u8], k: usize) -> u32
     ensures { λ r. ⌜ r ≡ wordAt (now (bytes .entry)) k ⌝ }
 {
     let at = 4 * k;
-    0x100_0000 * wide(bytes[at])
-        + 0x1_0000 * wide(bytes[at + 1])
-        + 0x100 * wide(bytes[at + 2])
-        + wide(bytes[at + 3])
+    0x100_0000 * number(bytes[at])
+        + 0x1_0000 * number(bytes[at + 1])
+        + 0x100 * number(bytes[at + 2])
+        + number(bytes[at + 3])
 }
 
 // Reads the bytes' words into the lent ones, as many as both have room for, and answers how many.

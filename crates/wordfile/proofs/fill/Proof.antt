@@ -15,34 +15,13 @@ Inv-loop bytes words₀ count k₀ words k =
 abbrev μ-loop : tie.MeasureT-loop
 μ-loop bytes words₀ count k₀ words k = count - k
 
-min-requires : tie.Need-min-requires Inv-loop μ-loop
-min-requires c κs = search needs
-
 loop-holds : tie.Need-loop-holds Inv-loop μ-loop
 loop-holds c = (search needs, search needs, search needs, all-left _ _ _)
-
-word-at-requires : tie.Need-word-at-requires Inv-loop μ-loop
-word-at-requires c κs = search needs
-
-mul-words : tie.Need-mul-words Inv-loop μ-loop
-mul-words c = search needs
-
-slice-write-words : tie.Need-slice-write-words Inv-loop μ-loop
-slice-write-words c = search needs
-
-add-k : tie.Need-add-k Inv-loop μ-loop
-add-k c = search needs
-
-loop-less : tie.Need-loop-less Inv-loop μ-loop
-loop-less c = search needs
 
 loop-again : tie.Need-loop-again Inv-loop μ-loop
 loop-again c =
     let l = c .before .before .loop in
     (search needs, search needs, search needs, one-less _ _ _ _ _ _ (search needs) (l .inv .3) (c .word-at .ensures))
-
-same-length : tie.Need-same-length Inv-loop μ-loop
-same-length c = search needs
 
 returns : tie.Need-returns Inv-loop μ-loop
 returns c =
@@ -55,13 +34,13 @@ fill-spec =
     (tie.spec
     Inv-loop
     μ-loop
-    min-requires
+    (λ c κs. search needs)
     loop-holds
-    word-at-requires
-    mul-words
-    slice-write-words
-    add-k
-    loop-less
+    (λ c κs. search needs)
+    (λ c. search needs)
+    (λ c. search needs)
+    (λ c. search needs)
+    (λ c. search needs)
     loop-again
-    same-length
+    (λ c. search needs)
     returns)

@@ -5,17 +5,8 @@ use Rattle.canvas.proofs.Laws.{no-lead}
 use Rattle.canvas.proofs.row.is_wide_lead.Statement.{statement}
 use Rattle.canvas.proofs.row.is_wide_lead.Tie as tie
 
-read-requires : tie.Need-read-requires
-read-requires c κs = search needs
-
-enum-known-ch : tie.Need-enum-known-ch
-enum-known-ch c = search needs
-
 returns : tie.Need-returns
 returns c = no-lead _ _ _ (c .before .read .ensures) (c .match .keys2)
-
-char-width-requires : tie.Need-char-width-requires
-char-width-requires c κs = search needs
 
 returns-2 : tie.Need-returns-2
 unfolding isWideLead
@@ -24,4 +15,4 @@ returns-2 c =
 
 pub is-wide-lead-spec : {M : Type 1} → statement M
 is-wide-lead-spec =
-    tie.close (tie.spec read-requires enum-known-ch returns char-width-requires returns-2)
+    tie.close (tie.spec (λ c κs. search needs) (λ c. search needs) returns (λ c κs. search needs) returns-2)
