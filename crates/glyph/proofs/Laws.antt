@@ -1,14 +1,18 @@
--- Laws over plain variables: a turn of the bisection, and a turn of the count of glyphs that fit.
+-- Laws over plain variables: a turn of the bisection, a range that is looked at, and a turn of the count of glyphs that fit.
 use native.Mathlib.Omega.{arith}
 use native.Mathlib.Numerals.{add-one}
 use Prim.Native.Nat.{ℕ, zero, suc, _+_, _-_, _≤_, _<_}
 use mathlib.Core.Path.{_≡_, refl, sym, _∙_}
+use mathlib.Core.Bool.{true, false}
 use mathlib.Core.List.{List}
 use lib.ListN.{length, getD, drop, drop-of-length-le}
 use lib.Seq.{drop-cons}
 use borrow.Author.Tests.{lt-ltb, le-ltb, le-leb, lt-leb}
+use Rattle.ground.specs.declared.Found.the-variants as none
+use Rattle.ground.specs.Judged.{firstBad}
 use Rattle.ground.proofs.Order.{by-order}
 use Rattle.glyph.specs.Width.{bisect, middle, widthOf, firstOf, lastOf, rangeWidth, rangeCount}
+use Rattle.glyph.specs.Ranges.{rangeBroken, judgedRange}
 use Rattle.glyph.specs.Fitting.{fitCount}
 
 -- a value lies before a range, past it, or in it
@@ -64,6 +68,17 @@ module _ (t : List ℕ) (v low high r : ℕ) (i : bisect (high - low) t v low hi
         width ≡ r
     unfolding bisect
     found width e p q = e ∙ (simp (lt-ltb _ _ h, le-ltb _ _ p, le-ltb _ _ q) at turn)
+
+module _ (place : ℕ → ℕ) (t : List ℕ) (k : ℕ) where
+  -- a range that is looked at, one that keeps the rule and one that breaks it
+
+  pub range-kept : rangeBroken t k ≡ false → firstBad (judgedRange place t k) ≡ none.None
+  unfolding firstBad
+  range-kept e = rw e
+
+  pub range-hit : rangeBroken t k ≡ true → firstBad (judgedRange place t k) ≡ none.At (place k)
+  unfolding firstBad
+  range-hit e = rw e
 
 module _ (label t : List ℕ) (left n r : ℕ) (i : n + fitCount (drop n label) t left ≡ r) where
   -- no glyph is left

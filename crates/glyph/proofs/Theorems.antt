@@ -2,22 +2,24 @@
 -- where each keeps the rule, and the fitting part is the longest prefix.
 use native.Mathlib.Omega.{arith}
 use Prim.Native.Nat.{ℕ, zero, suc, _+_, _-_, _*_, _≤_, _<_, zero-le, suc-le-suc}
-use mathlib.Core.Bool.{Bool, true, false, _&&_, _||_, true≢false}
+use mathlib.Core.Bool.{Bool, true, false, not, _&&_, _||_, true≢false}
 use mathlib.Core.Logic.{_↔_}
 use mathlib.Core.Path.{_≡_, refl, sym, ap, _∙_}
 use mathlib.Core.List.{List, [], _∷_}
 use lib.Dec.{eqb, ltb, leb}
 use lib.ListN.{length, getD, take, length-take}
 use lib.Seq.{length-take-le}
-use borrow.Author.Tests.{ltb-false, leb-false, lt-ltb, le-ltb, le-leb, lt-leb}
+use borrow.Author.Tests.{not-true, ltb-false, leb-false, lt-ltb, le-ltb, le-leb, lt-leb}
 use Rattle.glyph.specs.Width.{InOrder, bisect, middle, widthOf, firstOf, lastOf, rangeWidth, rangeCount}
-use Rattle.glyph.specs.Ranges.{holds, holdsFixed, notAbove, rangeBroken, brokenAt, firstBroken, isNone, rangesGood}
+use Rattle.glyph.specs.Ranges.{holds, holdsFixed, notAbove, rangeBroken, judgedRange, judgedRanges, firstBroken, rangesGood, placed}
 use Rattle.glyph.specs.Ranges.{Fixed, space, quote, opening, closing, RangeGood, WidthsRight}
 use Rattle.glyph.specs.Fitting.{columnsOf, fitCount, fitPrefix, LongestPrefix}
-use Rattle.glyph.proofs.Laws.{by-range}
-use Rattle.ground.specs.declared.Found.{Found}
+use Rattle.glyph.proofs.Laws.{by-range, range-kept, range-hit}
 use Rattle.ground.specs.declared.Found.the-variants as found
-use Rattle.ground.proofs.First.{found-none, first-none, none-first}
+use Rattle.ground.specs.Each.{numbers, each, every}
+use Rattle.ground.specs.Judged.{firstBad}
+use Rattle.ground.proofs.Each.{or-left, or-right, or-neither, by-bool, every-number, number-every}
+use Rattle.ground.proofs.Judged.{none-of-each, each-of-none}
 use Rattle.ground.proofs.Order.{by-order, by-three, cond-bound}
 
 range-bound : (t : List ℕ) (k : ℕ) → rangeWidth t k ≤ 2
@@ -82,11 +84,6 @@ pub width-held : (t : List ℕ) (v k : ℕ) → InOrder t → k < rangeCount t �
 unfolding widthOf
 width-held t v k o h p q = bisect-held (rangeCount t) t v 0 (rangeCount t) k o (omega arith) (omega arith) (omega arith) h p q
 
--- of two tests neither holds exactly where each does not
-neither-iff : (a b : Bool) → (a || b ≡ false) ↔ ((a ≡ false) × (b ≡ false))
-neither-iff true b = (λ h. absurd (true≢false h), λ h. h .0)
-neither-iff false b = (λ h. (refl, h), λ h. h .1)
-
 -- a range does not hold a value exactly where the value is not from its first to its last
 outside-iff : (first last value : ℕ) → (holds first last value ≡ false) ↔ (first ≤ value → value ≤ last → ⊥)
 outside-iff first last value = (
@@ -94,25 +91,30 @@ outside-iff first last value = (
   λ h. by-order value first (λ p. simp (lt-leb _ _ p)) (λ p. by-order last value (λ q. simp (le-leb _ _ p, lt-leb _ _ q)) (λ q. absurd (h p q))),
 )
 
+four-false : (a b c d : Bool) → a || b || c || d ≡ false → (a ≡ false) × (b ≡ false) × (c ≡ false) × (d ≡ false)
+four-false a b c d h =
+    let three = or-left (a || b || c) d h in
+    let two = or-left (a || b) c three in
+    (or-left a b two, or-right a b two, or-right (a || b) c three, or-right (a || b || c) d h)
+
 module _ (first last : ℕ) where
-  abbrev free : ℕ → Type 0
-  free value = holds first last value ≡ false
+  -- it holds none of the four exactly where it does not hold each
 
-  four-free : free 0x20 → free 0x22 → free 0x5B → free 0x5D → (value : ℕ) → Fixed value → free value
-  four-free a b c d value space = a
-  four-free a b c d value quote = b
-  four-free a b c d value opening = c
-  four-free a b c d value closing = d
-
-  fixed-iff : (holdsFixed first last ≡ false) ↔ ((value : ℕ) → Fixed value → free value)
+  each-free :
+      holdsFixed first last ≡ false →
+      (holds first last 0x20 ≡ false) × (holds first last 0x22 ≡ false) × (holds first last 0x5B ≡ false) × (holds first last 0x5D ≡ false)
   unfolding holdsFixed
-  fixed-iff =
-      let third = neither-iff (holds first last 0x20 || holds first last 0x22 || holds first last 0x5B) (holds first last 0x5D) in
-      let second = neither-iff (holds first last 0x20 || holds first last 0x22) (holds first last 0x5B) in
-      let one = neither-iff (holds first last 0x20) (holds first last 0x22) in (
-        (λ h. let a = third .0 h in let b = second .0 (a .0) in let c = one .0 (b .0) in four-free (c .0) (c .1) (b .1) (a .1)),
-        (λ h. third .1 (second .1 (one .1 (h 0x20 space, h 0x22 quote), h 0x5B opening), h 0x5D closing)),
-      )
+  each-free h = four-false (holds first last 0x20) (holds first last 0x22) (holds first last 0x5B) (holds first last 0x5D) h
+
+  free : holdsFixed first last ≡ false → (value : ℕ) → Fixed value → holds first last value ≡ false
+  free h value space = each-free h .0
+  free h value quote = each-free h .1
+  free h value opening = each-free h .2
+  free h value closing = each-free h .3
+
+  no-fixed : ((value : ℕ) → Fixed value → holds first last value ≡ false) → holdsFixed first last ≡ false
+  unfolding holdsFixed
+  no-fixed h = simp (h 0x20 space, h 0x22 quote, h 0x5B opening, h 0x5D closing)
 
 above-iff : (k first before : ℕ) → (ltb 0 k && leb first before ≡ false) ↔ (0 < k → before < first)
 above-iff k first before = (
@@ -124,34 +126,47 @@ above-iff k first before = (
 pub range-good-iff : (t : List ℕ) (k : ℕ) → (rangeBroken t k ≡ false) ↔ RangeGood t k
 unfolding rangeBroken notAbove
 range-good-iff t k =
-    let both = neither-iff (ltb (lastOf t k) (firstOf t k) || notAbove t k) (holdsFixed (firstOf t k) (lastOf t k)) in
-    let order = neither-iff (ltb (lastOf t k) (firstOf t k)) (notAbove t k) in
-    let above = above-iff k (firstOf t k) (lastOf t (k - 1)) in
-    let fixed = fixed-iff (firstOf t k) (lastOf t k) in (
-      (λ h. record {
-        own = ltb-false _ _ (order .0 (both .0 h .0) .0);
-        above = above .0 (order .0 (both .0 h .0) .1);
-        fixed = λ value f. outside-iff _ _ value .0 (fixed .0 (both .0 h .1) value f);
+    let above = above-iff k (firstOf t k) (lastOf t (k - 1)) in (
+      (λ h. let order = or-left (ltb (lastOf t k) (firstOf t k) || notAbove t k) _ h in record {
+        own = ltb-false _ _ (or-left _ _ order);
+        above = above .0 (or-right (ltb (lastOf t k) (firstOf t k)) _ order);
+        fixed = λ value f. outside-iff _ _ value .0 (free _ _ (or-right (ltb (lastOf t k) (firstOf t k) || notAbove t k) _ h) value f);
       }),
-      (λ g. both .1 (order .1 (le-ltb _ _ (g .own), above .1 (g .above)), fixed .1 (λ value f. outside-iff _ _ value .1 (g .fixed value f)))),
+      (λ g. or-neither (or-neither (le-ltb _ _ (g .own)) (above .1 (g .above))) (no-fixed _ _ (λ value f. outside-iff _ _ value .1 (g .fixed value f)))),
     )
+
+unhit : (t : List ℕ) (k : ℕ) → firstBad (judgedRange (λ n. n) t k) ≡ found.None → rangeBroken t k ≡ false
+unhit t k h =
+    by-bool (rangeBroken t k)
+    (λ e. let z : _≡_ {A = ℕ} 0 1 = cc (range-hit (λ n. n) t k e) in absurd (omega arith))
+    (λ e. e)
 
 -- None is broken exactly where each keeps the rule.
 pub ranges-good-iff : (t : List ℕ) → (firstBroken t ≡ found.None) ↔ ((k : ℕ) → k < rangeCount t → RangeGood t k)
-unfolding firstBroken
+unfolding firstBroken judgedRanges
 ranges-good-iff t = (
-  λ h k p. range-good-iff t k .0 (found-none (rangeBroken t k) k (first-none (brokenAt t) 0 _ h k (omega arith) (omega arith))),
-  λ g. none-first (brokenAt t) 0 _ (λ k p q. rw (range-good-iff t k .1 (g k (omega arith)))),
+  λ h k p. range-good-iff t k .0 (unhit t k (none-of-each (judgedRange (λ n. n) t) _ h k p)),
+  λ g. each-of-none (judgedRange (λ n. n) t) _ (λ k p. range-kept (λ n. n) t k (range-good-iff t k .1 (g k p))),
 )
-
-is-none-iff : (f : Found) → (isNone f ≡ true) ↔ (f ≡ found.None)
-is-none-iff found.None = (λ h. refl, λ h. refl)
-is-none-iff (found.At k) = (λ h. absurd (true≢false (sym h)), λ h. let z : _≡_ {A = ℕ} 0 1 = cc in absurd (omega arith))
 
 -- The test of a whole table says so too.
 pub all-good-iff : (t : List ℕ) → (rangesGood t ≡ true) ↔ (firstBroken t ≡ found.None)
-unfolding rangesGood
-all-good-iff t = is-none-iff (firstBroken t)
+unfolding rangesGood firstBroken judgedRanges
+all-good-iff t = (
+  λ h. each-of-none (judgedRange (λ n. n) t) _ (λ k p. range-kept (λ n. n) t k (not-true _ (every-number (λ n. not (rangeBroken t n)) 0 _ h k (omega arith) (omega arith)))),
+  λ h. number-every (λ n. not (rangeBroken t n)) 0 _
+      (λ k p q. rw (unhit t k (none-of-each (judgedRange (λ n. n) t) _ h k (omega arith)))),
+)
+
+broken-among : (place : ℕ → ℕ) (t list : List ℕ) → firstBad (each list (judgedRange place t)) ≡ placed place (firstBad (each list (judgedRange (λ n. n) t)))
+unfolding firstBad each
+broken-among place t [] = refl
+broken-among place t (k ∷ list) = by-bool (rangeBroken t k) (λ e. rw e) (λ e. rw e (broken-among place t list))
+
+-- Where ranges have places, the first broken one is found at its place.
+pub broken-placed : (place : ℕ → ℕ) (t : List ℕ) → firstBad (judgedRanges place t) ≡ placed place (firstBroken t)
+unfolding firstBroken judgedRanges
+broken-placed place t = broken-among place t (numbers 0 (rangeCount t))
 
 -- A table without a broken range is in order.
 pub good-in-order : (t : List ℕ) → firstBroken t ≡ found.None → InOrder t

@@ -1,11 +1,12 @@
 -- The rule of code 5: "a width range has first > last, first not above the last before it, or holds 0020, 0022, 005B or 005D". It is one test, over any
 -- table of ranges.
 use Prim.Native.Nat.{ℕ, _-_, _≤_, _<_}
-use mathlib.Core.Bool.{Bool, true, false, _&&_, _||_}
-use mathlib.Core.List.{List}
+use mathlib.Core.Bool.{Bool, not, _&&_, _||_}
+use mathlib.Core.List.{List, [], _∷_}
 use mathlib.Core.Path.{_≡_}
 use lib.Dec.{leb, ltb}
-use Rattle.ground.specs.First.{foundIf, firstFrom}
+use Rattle.ground.specs.Each.{numbers, each, every}
+use Rattle.ground.specs.Judged.{Judged, judged, firstBad}
 use Rattle.ground.specs.declared.Found.{Found}
 use Rattle.ground.specs.declared.Found.the-variants as found
 use Rattle.glyph.specs.Width.{rangeCount, firstOf, lastOf, rangeWidth, widthOf}
@@ -26,21 +27,25 @@ notAbove ranges k = ltb 0 k && leb (firstOf ranges k) (lastOf ranges (k - 1))
 unfoldable pub rangeBroken : List ℕ → ℕ → Bool
 rangeBroken ranges k = ltb (lastOf ranges k) (firstOf ranges k) || notAbove ranges k || holdsFixed (firstOf ranges k) (lastOf ranges k)
 
-abbrev pub brokenAt : List ℕ → ℕ → Found
-brokenAt ranges k = foundIf (rangeBroken ranges k) k
+-- what the rule looks at: each range in turn, range k at the place that it has
+abbrev pub judgedRange : (ℕ → ℕ) → List ℕ → ℕ → List Judged
+judgedRange place ranges k = judged (place k) (not (rangeBroken ranges k)) ∷ []
 
--- the first range that breaks it
+unfoldable pub judgedRanges : (ℕ → ℕ) → List ℕ → List Judged
+judgedRanges place ranges = each (numbers 0 (rangeCount ranges)) (judgedRange place ranges)
+
+-- the first range that breaks it, by its number
 unfoldable pub firstBroken : List ℕ → Found
-firstBroken ranges = firstFrom (brokenAt ranges) 0 (rangeCount ranges)
+firstBroken ranges = firstBad (judgedRanges (λ k. k) ranges)
 
 -- no range breaks it
-
-abbrev pub isNone : Found → Bool
-isNone found.None = true
-isNone (found.At k) = false
-
 unfoldable pub rangesGood : List ℕ → Bool
-rangesGood ranges = isNone (firstBroken ranges)
+rangesGood ranges = every (numbers 0 (rangeCount ranges)) (λ k. not (rangeBroken ranges k))
+
+-- the place of the range that is found
+abbrev pub placed : (ℕ → ℕ) → Found → Found
+placed place found.None = found.None
+placed place (found.At k) = found.At (place k)
 
 -- the four characters
 pub data Fixed : ℕ → Type 0 where

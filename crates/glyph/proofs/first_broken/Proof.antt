@@ -2,35 +2,37 @@
 use borrow.Author.Needs.{needs}
 use Prim.Native.Nat.{_-_}
 use mathlib.Core.Path.{_≡_}
-use Rattle.ground.specs.First.{firstFrom}
-use Rattle.ground.proofs.First.{first-whole, first-again, first-hit, first-done}
+use Rattle.ground.specs.Each.{numbers, each}
+use Rattle.ground.specs.Judged.{firstBad}
+use Rattle.ground.proofs.Judged.{look-whole, look-again, look-hit, look-done}
 use Rattle.glyph.specs.Width.{rangeCount}
-use Rattle.glyph.specs.Ranges.{brokenAt, firstBroken}
+use Rattle.glyph.specs.Ranges.{judgedRange, judgedRanges, firstBroken}
+use Rattle.glyph.proofs.Laws.{range-kept, range-hit}
 use Rattle.glyph.proofs.first_broken.Statement.{statement}
 use Rattle.glyph.proofs.first_broken.Tie as tie
 
 abbrev Inv-loop : tie.InvT-loop
-Inv-loop ranges count k₀ k = firstFrom (brokenAt ranges) k (rangeCount ranges - k) ≡ firstBroken ranges
+Inv-loop ranges count k₀ k = firstBad (each (numbers k (rangeCount ranges - k)) (judgedRange (λ n. n) ranges)) ≡ firstBroken ranges
 
 abbrev μ-loop : tie.MeasureT-loop
 μ-loop ranges count k₀ k = rangeCount ranges - k
 
 loop-holds : tie.Need-loop-holds Inv-loop μ-loop
-unfolding firstBroken
-loop-holds c = first-whole _ _
+unfolding firstBroken judgedRanges
+loop-holds c = look-whole _ _
 
 returns : tie.Need-returns Inv-loop μ-loop
 returns c =
     let l = c .before .before .before .loop in
-    first-hit _ _ _ _ _ (search needs) (l .inv) (rw (← c .before .range-broken .ensures, c .if1 .taken))
+    look-hit _ _ _ _ _ (search needs) (l .inv) (range-hit (λ n. n) _ (l .k) (cc))
 
 loop-again : tie.Need-loop-again Inv-loop μ-loop
 loop-again c =
     let l = c .before .before .before .loop in
-    first-again _ _ _ _ (search needs) (l .inv) (rw (← c .before .range-broken .ensures, c .if1 .left))
+    look-again _ _ _ _ (search needs) (l .inv) (range-kept (λ n. n) _ (l .k) (cc))
 
 returns-2 : tie.Need-returns-2 Inv-loop μ-loop
-returns-2 c = first-done _ _ _ _ (search needs) (c .before .loop .inv)
+returns-2 c = look-done _ _ _ _ (search needs) (c .before .loop .inv)
 
 pub first-broken-spec : {M : Type 1} → statement M
 first-broken-spec =
