@@ -1,47 +1,34 @@
 -- Laws over plain values, which the functions' proofs and the theorems cite.
-use Prim.Native.Nat.{ℕ, _+_, _*_, _-_, _/_, _%_, _≤_, _<_}
-use native.Mathlib.Nat.{mul-le-mul, mul-le-mul-right, add-mul}
+use Prim.Native.Nat.{ℕ, _+_, _*_, _-_, _≤_, _<_}
+use native.Mathlib.Nat.{add-mul}
 use native.Mathlib.Omega.{arith}
-use mathlib.Core.Path.{_≡_, refl, ap}
+use mathlib.Core.Path.{_≡_, refl}
 use mathlib.Core.Bool.{Bool, true, false, _&&_}
-use mathlib.Core.List.{List, []}
+use mathlib.Core.List.{List, [], _∷_}
 use lib.ListN.{length, take, drop}
 use borrow.Author.Tests.{le-leb, lt-leb}
+use types.Run.{OneOf, miss}
+use denote.Enum.Declared.{tagOf}
+use Rattle.layout.specs.declared.Table.{Table}
+use Rattle.layout.specs.declared.Tables.{Tables}
+use Rattle.layout.specs.Layout.{nodeX, nodeY, nodeWidth, nodeHeight, nodeLabelStart, nodeLabelCount, edgeColour, edgeLabelColour}
+use Rattle.layout.specs.Layout.{subgraphX, subgraphY, subgraphWidth, subgraphHeight, subgraphLabelStart, subgraphLabelCount, subgraphColour}
+use Rattle.layout.specs.Tables.{tableEnd, recordAt, field}
 use Rattle.cell.specs.declared.Weight.{Weight}
-use Rattle.cell.specs.OneCell.{weightOf}
-use Rattle.image.specs.declared.Table.{Table}
-use Rattle.image.specs.declared.Tables.{Tables}
 use Rattle.image.specs.declared.Span.{Span}
-use Rattle.image.specs.declared.Path.{Path}
-use Rattle.image.specs.declared.FlowAxis.{FlowAxis}
+use Rattle.image.specs.declared.NodeKind.{NodeKind}
+use Rattle.image.specs.declared.SelfLoop.{SelfLoop}
+use Rattle.image.specs.declared.Ends.{Ends}
+use Rattle.image.specs.declared.Style.{Style}
 use Rattle.image.specs.declared.EdgeLabel.{EdgeLabel}
 use Rattle.image.specs.declared.Edge.{Edge}
-use Rattle.image.specs.SheetImage.{word, flag, tableEnd, tableAfter, tablesOf, recordAt, Small, spanWords, spanFrom}
-use Rattle.image.specs.SheetImage.{pathFrom, labelFrom, axisOf, edgeFrom}
-
--- a number of 32 bits times a record's length
-pub product-small : (k size : ℕ) → k < 0x100000000 → size ≤ 16 → k * size < 0x1000000000
-product-small k size h p =
-    let q : k * size ≤ 0xFFFFFFFF * 16 = mul-le-mul {n₂ = 0xFFFFFFFF} {m₂ = 16} (omega arith) p in
-    omega arith
-
--- a table that follows another is small where it begins low enough
-pub after-small :
-    (t r : Table) (count size : ℕ) →
-    r ≡ tableAfter t count size →
-    size ≤ 16 →
-    r .start < 0x10000000000 →
-    r .count < 0x100000000 →
-    Small r
-after-small t r count size e p q s = record {
-  start = q;
-  count = s;
-  size = rw (ap (λ (u : Table). u .size) e) p;
-}
-
--- a record of the table begins, and the last ends, no later than the table ends
-pub record-inside : (t : Table) (k : ℕ) → k ≤ t .count → recordAt t k ≤ tableEnd t
-record-inside t k h = omega (arith, mul-le-mul-right (t .size) h)
+use Rattle.image.specs.declared.LabelPosition.{LabelPosition}
+use Rattle.image.specs.Records.{spanAt, nodeAt, edgeAt, subgraphAt}
+use Rattle.image.specs.Parts.{nodeKindAt, selfLoopAt, endsAt, styleAt, pathAt, edgeLabelAt, borderAt, positionAt}
+use Rattle.image.specs.declared.Path.{Path}
+use Rattle.image.specs.declared.Path.the-variants.{Direct, Corner, SideChannel, MultiSegment, Orthogonal, Spline}
+use Rattle.image.specs.Spans.{spanWords, pathSpan}
+use Rattle.image.proofs.Path.{the-type}
 
 -- what lies between the beginnings of two records
 pub records-between : (t : Table) (k n : ℕ) → recordAt t (k + n) - recordAt t k ≡ n * t .size
@@ -86,83 +73,69 @@ pub table-outside :
 unfolding spanWords
 table-outside image t span p = simp (lt-leb _ _ p, and-false)
 
--- the tables, in the order in which they are read
-pub tables-fields :
-    (image : List ℕ) (n4 count n5 n6 n7 n8 n9 n10 n11 : ℕ)
-    (edges subgraphs labels elements points glyphs ranges : Table) →
-    n4 ≡ word image 4 →
-    count ≡ n4 →
-    n5 ≡ word image 5 →
-    edges ≡ tableAfter (record { start = 12; count = count; size = 9 }) n5 12 →
-    n6 ≡ word image 6 →
-    subgraphs ≡ tableAfter edges n6 8 →
-    n7 ≡ word image 7 →
-    labels ≡ tableAfter subgraphs n7 4 →
-    n8 ≡ word image 8 →
-    elements ≡ tableAfter labels n8 4 →
-    n9 ≡ word image 9 →
-    points ≡ tableAfter elements n9 2 →
-    n10 ≡ word image 10 →
-    glyphs ≡ tableAfter points n10 1 →
-    n11 ≡ word image 11 →
-    ranges ≡ tableAfter glyphs n11 3 →
-    _≡_ {A = Tables} (record {
-      nodes = record { start = 12; count = count; size = 9 };
-      edges = edges;
-      subgraphs = subgraphs;
-      labels = labels;
-      elements = elements;
-      points = points;
-      glyphs = glyphs;
-      ranges = ranges;
-    }) (tablesOf image)
-unfolding tablesOf
-tables-fields image n4 count n5 n6 n7 n8 n9 n10 n11 edges subgraphs labels elements points glyphs ranges
-    e1 e2 e3 e4 e5 e6 e7 e8 e9 e10 e11 e12 e13 e14 e15 e16 =
-    cc
+abbrev pointless : List ℕ
+pointless = 0 ∷ 1 ∷ 2 ∷ 5 ∷ []
 
--- an edge by its fields, in the order in which they are read
-pub edge-fields :
-    (image : List ℕ) (at flags a b c : ℕ) (path : Path) (shown : Bool) (span : Span) (label : EdgeLabel)
-    (from-x from-y to-x to-y : ℕ) (across : Bool) (axis : FlowAxis) (reversed start-marker end-marker : Bool)
-    (weight : Weight) (colour label-colour : ℕ) →
-    flags ≡ word image (at + 4) →
-    a ≡ word image (at + 5) →
-    b ≡ word image (at + 6) →
-    c ≡ word image (at + 7) →
-    path ≡ pathFrom (flags / 0x20000000) a b c →
-    shown ≡ flag flags 0x00400000 →
-    span ≡ spanFrom image (at + 8) →
-    label ≡ labelFrom shown span →
-    from-x ≡ word image at →
-    from-y ≡ word image (at + 1) →
-    to-x ≡ word image (at + 2) →
-    to-y ≡ word image (at + 3) →
-    across ≡ flag flags 0x10000000 →
-    axis ≡ axisOf across →
-    reversed ≡ flag flags 0x08000000 →
-    start-marker ≡ flag flags 0x04000000 →
-    end-marker ≡ flag flags 0x02000000 →
-    weight ≡ weightOf (flags / 0x00800000 % 4) →
-    colour ≡ word image (at + 10) →
-    label-colour ≡ word image (at + 11) →
+-- a path without points has the empty span
+pub no-points : (p : Path) → OneOf pointless (tagOf the-type p) → record { start = 0; count = 0 } ≡ pathSpan p
+no-points Direct k = refl
+no-points (Corner bend) k = refl
+no-points (SideChannel channel start end) k = refl
+no-points (MultiSegment span offset) k = absurd (miss pointless 3 tt k)
+no-points (Orthogonal span) k = absurd (miss pointless 4 tt k)
+no-points Spline k = refl
+
+-- a node, an edge and a subgraph of the parts by which they are read
+
+pub node-of :
+    (image : List ℕ) (ts : Tables) (k x y width height : ℕ) (label : Span) (kind : NodeKind) (loop : SelfLoop) →
+    x ≡ field image (ts .nodes) k nodeX →
+    y ≡ field image (ts .nodes) k nodeY →
+    width ≡ field image (ts .nodes) k nodeWidth →
+    height ≡ field image (ts .nodes) k nodeHeight →
+    label ≡ spanAt image (ts .nodes) k nodeLabelStart nodeLabelCount →
+    kind ≡ nodeKindAt image (ts .nodes) k →
+    loop ≡ selfLoopAt image (ts .nodes) k →
+    record { x = x; y = y; width = width; height = height; label = label; kind = kind; «self_loop» = loop } ≡ nodeAt image ts k
+unfolding nodeAt
+node-of image ts k x y width height label kind loop e1 e2 e3 e4 e5 e6 e7 = rw (e1, e2, e3, e4, e5, e6, e7)
+
+pub edge-of :
+    (image : List ℕ) (ts : Tables) (k : ℕ) (ends : Ends) (path : Path) (style : Style) (label : EdgeLabel) (colour label-colour : ℕ) →
+    ends ≡ endsAt image (ts .edges) k →
+    style ≡ styleAt image (ts .edges) k →
+    path ≡ pathAt image (ts .edges) k →
+    label ≡ edgeLabelAt image (ts .edges) k →
+    colour ≡ field image (ts .edges) k edgeColour →
+    label-colour ≡ field image (ts .edges) k edgeLabelColour →
     _≡_ {A = Edge} (record {
-      «from_x» = from-x;
-      «from_y» = from-y;
-      «to_x» = to-x;
-      «to_y» = to-y;
+      «from_x» = ends .«from_x»;
+      «from_y» = ends .«from_y»;
+      «to_x» = ends .«to_x»;
+      «to_y» = ends .«to_y»;
       path = path;
-      «flow_axis» = axis;
-      reversed = reversed;
-      «start_marker» = start-marker;
-      «end_marker» = end-marker;
-      weight = weight;
+      «flow_axis» = style .«flow_axis»;
+      reversed = style .reversed;
+      «start_marker» = style .«start_marker»;
+      «end_marker» = style .«end_marker»;
+      weight = style .weight;
       label = label;
       colour = colour;
       «label_colour» = label-colour;
-    }) (edgeFrom image at)
-unfolding edgeFrom
-edge-fields image at flags a b c path shown span label from-x from-y to-x to-y across axis reversed
-    start-marker end-marker weight colour label-colour
-    e1 e2 e3 e4 e5 e6 e7 e8 e9 e10 e11 e12 e13 e14 e15 e16 e17 e18 e19 e20 =
-    cc
+    }) (edgeAt image ts k)
+unfolding edgeAt
+edge-of image ts k ends path style label colour label-colour e1 e2 e3 e4 e5 e6 = rw (e1, e2, e3, e4, e5, e6)
+
+pub subgraph-of :
+    (image : List ℕ) (ts : Tables) (k x y width height : ℕ) (label : Span) (border : Weight) (position : LabelPosition) (colour : ℕ) →
+    x ≡ field image (ts .subgraphs) k subgraphX →
+    y ≡ field image (ts .subgraphs) k subgraphY →
+    width ≡ field image (ts .subgraphs) k subgraphWidth →
+    height ≡ field image (ts .subgraphs) k subgraphHeight →
+    label ≡ spanAt image (ts .subgraphs) k subgraphLabelStart subgraphLabelCount →
+    border ≡ borderAt image (ts .subgraphs) k →
+    position ≡ positionAt image (ts .subgraphs) k →
+    colour ≡ field image (ts .subgraphs) k subgraphColour →
+    record { x = x; y = y; width = width; height = height; label = label; border = border; position = position; colour = colour } ≡ subgraphAt image ts k
+unfolding subgraphAt
+subgraph-of image ts k x y width height label border position colour e1 e2 e3 e4 e5 e6 e7 e8 = rw (e1, e2, e3, e4, e5, e6, e7, e8)

@@ -1,3 +1,3 @@
--- The laws that the functions' proofs share, and the theorems about tables and spans.
+-- The laws that the functions' proofs share, and the theorems about spans.
 pub mod Laws
 pub mod Theorems

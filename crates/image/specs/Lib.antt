@@ -1,2 +1,4 @@
--- What document 01 says of the sheet image.
-pub mod SheetImage
+-- What document 01 says of the sheet image's records.
+pub mod Records
+pub mod Spans
+pub mod Parts

@@ -1,41 +1,46 @@
-// The sheet image: one lent slice of words, read into records by value. Every reader takes any words: a word past the end reads 0, and a span that leaves
+// The sheet image's records by value, and parts of its tables as slices. Every reader takes any words: a word past the end reads 0, and a span that leaves
 // its table is the empty part.
 ghost use mathlib.Core.Path.{_≡_};
-ghost use Prim.Native.Nat.{_+_, _*_, _/_, _%_, _≤_, _<_};
+ghost use Prim.Native.Nat.{_+_, _*_, _/_, _≤_, _<_};
 ghost use lib.ListN.{length};
-ghost use Rattle.image.specs.SheetImage.{word, flag, policyOf, headerOf, tableEnd, tableAfter, tablesOf, recordAt};
-ghost use Rattle.image.specs.SheetImage.{Small, AllSmall, spanFrom, spanWords, nodeKindOf, selfLoopFrom, nodeFrom, pathFrom, labelFrom, edgeFrom};
-ghost use Rattle.image.specs.SheetImage.{axisOf, positionOf, subgraphFrom, placedLabelFrom, elementKindOf, elementFrom, pointFrom};
+ghost use Rattle.layout.specs.Layout.{pointSize};
+ghost use Rattle.layout.specs.Tables.{field};
+ghost use Rattle.layout.specs.Small.{Small, AllSmall};
+ghost use Rattle.image.specs.Records.{policyOf, headerOf, spanAt, nodeKindOf, selfLoopOf, nodeAt, pathOf, axisOf, edgeLabelOf, edgeAt};
+ghost use Rattle.image.specs.Records.{positionOf, subgraphAt, placedLabelAt, elementKindOf, elementKindNumber, thingTable, elementAt};
+ghost use Rattle.image.specs.Spans.{spanWords, pathSpan, pointsOf, glyphsOf, rangesOf, pointCount, pointAt};
+ghost use Rattle.image.specs.Parts.{nodeKindAt, selfLoopAt, endsAt, styleAt, pathAt, edgeLabelAt, borderAt, positionAt};
 use cell::Weight;
+use layout::Table;
+use layout::Tables;
+use layout::bits;
+use layout::field;
+use layout::flag;
+use layout::word;
 
-pub fn word(image: &[u32], at: usize) -> u32
-    ensures { λ r. ⌜ r ≡ word (now (image .entry)) at ⌝ }
-{
-    if at < image.len() { image[at] } else { 0 }
-}
-
-pub fn flag(flags: u32, bit: u32) -> bool
-    requires { ⌜ 0 < bit ⌝ }
-    ensures { λ r. ⌜ r ≡ flag flags bit ⌝ }
-{
-    flags / bit % 2 == 1
-}
-
+// When a placed label is painted.
 pub enum LabelPolicy {
+    // where it is placeable
     Geometric,
+    // where it is placeable and its row has no node
     AvoidNodeRows,
 }
 
 pub struct Header {
+    // columns of the sheet
     pub width: u32,
+    // rows of the sheet
     pub height: u32,
+    // how many runs the scratch has room for
     pub run_capacity: u32,
+    // when placed labels are painted
     pub policy: LabelPolicy,
+    // whether dummy nodes are painted
     pub show_dummies: bool,
 }
 
 impl LabelPolicy {
-    pub fn from_bit(avoid: bool) -> LabelPolicy
+    pub fn of(avoid: bool) -> LabelPolicy
         ensures { λ r. ⌜ r ≡ policyOf avoid ⌝ }
     {
         if avoid {
@@ -46,112 +51,40 @@ impl LabelPolicy {
     }
 }
 
-impl Header {
-    pub fn read(image: &[u32]) -> Header
-        ensures { λ r. ⌜ r ≡ headerOf (now (image .entry)) ⌝ }
-    {
-        let flags = word(image, 3);
-        Header {
-            width: word(image, 0),
-            height: word(image, 1),
-            run_capacity: word(image, 2),
-            policy: LabelPolicy::from_bit(flag(flags, 0x8000_0000)),
-            show_dummies: flag(flags, 0x4000_0000),
-        }
+pub fn header_of(image: &[u32]) -> Header
+    ensures { λ r. ⌜ r ≡ headerOf (now (image .entry)) ⌝ }
+{
+    let flags = word(image, layout::HEADER_FLAGS);
+    Header {
+        width: word(image, layout::HEADER_WIDTH),
+        height: word(image, layout::HEADER_HEIGHT),
+        run_capacity: word(image, layout::HEADER_RUNS),
+        policy: LabelPolicy::of(flag(flags, layout::AVOID_NODE_ROWS)),
+        show_dummies: flag(flags, layout::SHOW_DUMMIES),
     }
 }
 
-// Where a table begins, how many records it has, and how many words each has.
-pub struct Table {
-    pub start: usize,
-    pub count: usize,
-    pub size: usize,
-}
-
-impl Table {
-    // Where record k begins.
-    pub fn at(self, k: usize) -> usize
-        requires { ⌜ Small self × (k < 4294967296) ⌝ }
-        ensures { λ r. ⌜ (r ≡ recordAt self k) × (r < 0x20000000000) ⌝ }
-    {
-        let start = self.start;
-        let size = self.size;
-        start + k * size
-    }
-
-    // Where the table ends.
-    pub fn end(self) -> usize
-        requires { ⌜ Small self ⌝ }
-        ensures { λ r. ⌜ (r ≡ tableEnd self) × (r ≤ self .start + 0x1000000000) ⌝ }
-    {
-        let count = self.count;
-        self.at(count)
-    }
-
-    // The table that follows.
-    fn after(self, count: u32, size: usize) -> Table
-        requires { ⌜ Small self × (size ≤ 16) ⌝ }
-        ensures { λ r. ⌜ (r ≡ tableAfter self count size) × (r .start ≤ self .start + 0x1000000000) × (r .count < 4294967296) ⌝ }
-    {
-        Table {
-            start: self.end(),
-            count: ground::number(count),
-            size: size,
-        }
-    }
-}
-
-// The one place that knows where each table begins and how long its records are.
-pub struct Tables {
-    pub nodes: Table,
-    pub edges: Table,
-    pub subgraphs: Table,
-    pub labels: Table,
-    pub elements: Table,
-    pub points: Table,
-    pub glyphs: Table,
-    pub ranges: Table,
-}
-
-impl Tables {
-    // "Tables follow in that order"
-    pub fn read(image: &[u32]) -> Tables
-        ensures { λ r. ⌜ r ≡ tablesOf (now (image .entry)) ⌝ }
-        ensures { λ r. ⌜ AllSmall r ⌝ }
-    {
-        let nodes = Table {
-            start: 12,
-            count: ground::number(word(image, 4)),
-            size: 9,
-        };
-        let edges = nodes.after(word(image, 5), 12);
-        let subgraphs = edges.after(word(image, 6), 8);
-        let labels = subgraphs.after(word(image, 7), 4);
-        let elements = labels.after(word(image, 8), 4);
-        let points = elements.after(word(image, 9), 2);
-        let glyphs = points.after(word(image, 10), 1);
-        let ranges = glyphs.after(word(image, 11), 3);
-        Tables {
-            nodes: nodes,
-            edges: edges,
-            subgraphs: subgraphs,
-            labels: labels,
-            elements: elements,
-            points: points,
-            glyphs: glyphs,
-            ranges: ranges,
-        }
-    }
-}
-
-// A part of a table: records from start on, so many.
+// A part of a table.
 pub struct Span {
+    // the first of its records
     pub start: u32,
+    // how many records it has
     pub count: u32,
 }
 
+// A span as two fields of record k.
+fn span_at(image: &[u32], table: Table, k: usize, start: usize, count: usize) -> Span
+    requires { ⌜ Small table × (k < 4294967296) × (start ≤ 16) × (count ≤ 16) ⌝ }
+    ensures { λ r. ⌜ r ≡ spanAt (now (image .entry)) table k start count ⌝ }
+{
+    Span {
+        start: field(image, table, k, start),
+        count: field(image, table, k, count),
+    }
+}
+
 // The words of a span's records, or the empty part where the span leaves its table or the table the image.
-pub fn span_part(image: &[u32], table: Table, span: Span) -> &[u32]
+pub fn span_words(image: &[u32], table: Table, span: Span) -> &[u32]
     requires { ⌜ Small table ⌝ }
     ensures { λ r. ⌜ now r ≡ spanWords (now (image .entry)) table span ⌝ }
 {
@@ -159,42 +92,54 @@ pub fn span_part(image: &[u32], table: Table, span: Span) -> &[u32]
     let count = ground::number(span.count);
     let held = table.count;
     if start + count <= held {
-        if table.end() <= image.len() {
-            let a = table.at(start);
-            let e = table.at(start + count);
+        if layout::table_end(table) <= image.len() {
+            let a = layout::record_at(table, start);
+            let e = layout::record_at(table, start + count);
             return &image[a..e];
         }
     }
     &image[0..0]
 }
 
+// How a node looks.
 pub enum NodeKind {
+    // its label in brackets
     Simple,
+    // its label in a box, where there is room
     Boxed,
+    // nothing of its own
     Blank,
+    // a marker on an edge's way, where dummies are shown
     Dummy,
 }
 
+// Whether a node has an edge to itself.
 pub enum SelfLoop {
     None,
+    // the cell of its marker
     At { x: u32, y: u32 },
 }
 
 pub struct Node {
+    // left column
     pub x: u32,
+    // top row
     pub y: u32,
+    // columns
     pub width: u32,
+    // rows
     pub height: u32,
+    // the glyphs of its label
     pub label: Span,
     pub kind: NodeKind,
     pub self_loop: SelfLoop,
 }
 
 impl NodeKind {
-    pub fn from_bits(n: u32) -> NodeKind
-        ensures { λ r. ⌜ r ≡ nodeKindOf n ⌝ }
+    pub fn of(number: u32) -> NodeKind
+        ensures { λ r. ⌜ r ≡ nodeKindOf number ⌝ }
     {
-        match n {
+        match number {
             0 => NodeKind::Simple,
             1 => NodeKind::Boxed,
             2 => NodeKind::Blank,
@@ -204,8 +149,8 @@ impl NodeKind {
 }
 
 impl SelfLoop {
-    pub fn from_bit(present: bool, x: u32, y: u32) -> SelfLoop
-        ensures { λ r. ⌜ r ≡ selfLoopFrom present x y ⌝ }
+    pub fn of(present: bool, x: u32, y: u32) -> SelfLoop
+        ensures { λ r. ⌜ r ≡ selfLoopOf present x y ⌝ }
     {
         if present {
             SelfLoop::At { x: x, y: y }
@@ -215,107 +160,142 @@ impl SelfLoop {
     }
 }
 
-impl Node {
-    pub fn read(image: &[u32], at: usize) -> Node
-        requires { ⌜ at < 0x20000000000 ⌝ }
-        ensures { λ r. ⌜ r ≡ nodeFrom (now (image .entry)) at ⌝ }
-    {
-        let flags = word(image, at + 6);
-        Node {
-            x: word(image, at),
-            y: word(image, at + 1),
-            width: word(image, at + 2),
-            height: word(image, at + 3),
-            label: Span::read(image, at + 4),
-            kind: NodeKind::from_bits(flags / 0x4000_0000),
-            self_loop: SelfLoop::from_bit(
-                flag(flags, 0x2000_0000),
-                word(image, at + 7),
-                word(image, at + 8),
-            ),
-        }
-    }
+fn node_kind_at(image: &[u32], nodes: Table, k: usize) -> NodeKind
+    requires { ⌜ Small nodes × (k < 4294967296) ⌝ }
+    ensures { λ r. ⌜ r ≡ nodeKindAt (now (image .entry)) nodes k ⌝ }
+{
+    let flags = field(image, nodes, k, layout::NODE_FLAGS);
+    NodeKind::of(bits(flags, layout::NODE_KIND_STEP, layout::NODE_KINDS))
 }
 
-impl Span {
-    pub fn read(image: &[u32], at: usize) -> Span
-        requires { ⌜ at < 0x30000000000 ⌝ }
-        ensures { λ r. ⌜ r ≡ spanFrom (now (image .entry)) at ⌝ }
-    {
-        Span {
-            start: word(image, at),
-            count: word(image, at + 1),
-        }
+fn self_loop_at(image: &[u32], nodes: Table, k: usize) -> SelfLoop
+    requires { ⌜ Small nodes × (k < 4294967296) ⌝ }
+    ensures { λ r. ⌜ r ≡ selfLoopAt (now (image .entry)) nodes k ⌝ }
+{
+    SelfLoop::of(
+        flag(
+            field(image, nodes, k, layout::NODE_FLAGS),
+            layout::SELF_LOOP,
+        ),
+        field(image, nodes, k, layout::NODE_LOOP_X),
+        field(image, nodes, k, layout::NODE_LOOP_Y),
+    )
+}
+
+pub fn node_at(image: &[u32], ts: Tables, k: usize) -> Node
+    requires { ⌜ AllSmall ts × (k < 4294967296) ⌝ }
+    ensures { λ r. ⌜ r ≡ nodeAt (now (image .entry)) ts k ⌝ }
+{
+    let nodes = ts.nodes;
+    Node {
+        x: field(image, nodes, k, layout::NODE_X),
+        y: field(image, nodes, k, layout::NODE_Y),
+        width: field(image, nodes, k, layout::NODE_WIDTH),
+        height: field(image, nodes, k, layout::NODE_HEIGHT),
+        label: span_at(
+            image,
+            nodes,
+            k,
+            layout::NODE_LABEL_START,
+            layout::NODE_LABEL_COUNT,
+        ),
+        kind: node_kind_at(image, nodes, k),
+        self_loop: self_loop_at(image, nodes, k),
     }
 }
 
 // How an edge gets from its source to its target.
 pub enum Path {
+    // straight
     Direct,
+    // by one crossing on this row, on X flow column
     Corner(u32),
+    // by a channel beside
     SideChannel {
+        // the channel's column, on X flow row
         channel: u32,
+        // where it is entered
         span_start: u32,
+        // where it is left
         span_end: u32,
     },
+    // by crossings from point to point
     MultiSegment {
         points: Span,
+        // how much later than one cell past its start the first leg crosses
         start_offset: u32,
     },
+    // along the lines between these points
     Orthogonal(Span),
+    // painted as Direct
     Spline,
 }
 
+// Along which axis an edge flows.
 pub enum FlowAxis {
+    // from row to row
     Y,
+    // from column to column
     X,
 }
 
+// An edge's label, which a placed label shows.
 pub enum EdgeLabel {
     None,
+    // its glyphs
     Present(Span),
 }
 
 pub struct Edge {
+    // the column of its source
     pub from_x: u32,
+    // the row of its source
     pub from_y: u32,
+    // the column of its target
     pub to_x: u32,
+    // the row of its target
     pub to_y: u32,
     pub path: Path,
     pub flow_axis: FlowAxis,
+    // whether it is drawn against its direction
     pub reversed: bool,
+    // whether it has an arrow at its start
     pub start_marker: bool,
+    // whether it has an arrow at its end
     pub end_marker: bool,
+    // the weight of its strokes
     pub weight: Weight,
     pub label: EdgeLabel,
+    // of its strokes and markers
     pub colour: u32,
+    // of its placed labels
     pub label_colour: u32,
 }
 
 impl Path {
-    pub fn from_words(kind: u32, a: u32, b: u32, c: u32) -> Path
-        ensures { λ r. ⌜ r ≡ pathFrom kind a b c ⌝ }
+    pub fn of(number: u32, a: u32, b: u32, c: u32) -> Path
+        ensures { λ r. ⌜ r ≡ pathOf number a b c ⌝ }
     {
-        match kind {
-            1 => Path::Corner(a),
-            2 => Path::SideChannel {
+        match number {
+            layout::PATH_CORNER => Path::Corner(a),
+            layout::PATH_SIDE_CHANNEL => Path::SideChannel {
                 channel: a,
                 span_start: b,
                 span_end: c,
             },
-            3 => Path::MultiSegment {
+            layout::PATH_MULTI_SEGMENT => Path::MultiSegment {
                 points: Span { start: a, count: b },
                 start_offset: c,
             },
-            4 => Path::Orthogonal(Span { start: a, count: b }),
-            5 => Path::Spline,
+            layout::PATH_ORTHOGONAL => Path::Orthogonal(Span { start: a, count: b }),
+            layout::PATH_SPLINE => Path::Spline,
             _ => Path::Direct,
         }
     }
 }
 
 impl FlowAxis {
-    pub fn from_bit(across: bool) -> FlowAxis
+    pub fn of(across: bool) -> FlowAxis
         ensures { λ r. ⌜ r ≡ axisOf across ⌝ }
     {
         if across { FlowAxis::X } else { FlowAxis::Y }
@@ -323,66 +303,146 @@ impl FlowAxis {
 }
 
 impl EdgeLabel {
-    pub fn from_bit(present: bool, label: Span) -> EdgeLabel
-        ensures { λ r. ⌜ r ≡ labelFrom present label ⌝ }
+    pub fn of(present: bool, span: Span) -> EdgeLabel
+        ensures { λ r. ⌜ r ≡ edgeLabelOf present span ⌝ }
     {
         if present {
-            EdgeLabel::Present(label)
+            EdgeLabel::Present(span)
         } else {
             EdgeLabel::None
         }
     }
 }
 
-impl Edge {
-    pub fn read(image: &[u32], at: usize) -> Edge
-        requires { ⌜ at < 0x20000000000 ⌝ }
-        ensures { λ r. ⌜ r ≡ edgeFrom (now (image .entry)) at ⌝ }
-    {
-        let flags = word(image, at + 4);
-        let path = Path::from_words(
-            flags / 0x2000_0000,
-            word(image, at + 5),
-            word(image, at + 6),
-            word(image, at + 7),
-        );
-        let label = EdgeLabel::from_bit(flag(flags, 0x0040_0000), Span::read(image, at + 8));
-        Edge {
-            from_x: word(image, at),
-            from_y: word(image, at + 1),
-            to_x: word(image, at + 2),
-            to_y: word(image, at + 3),
-            path: path,
-            flow_axis: FlowAxis::from_bit(flag(flags, 0x1000_0000)),
-            reversed: flag(flags, 0x0800_0000),
-            start_marker: flag(flags, 0x0400_0000),
-            end_marker: flag(flags, 0x0200_0000),
-            weight: Weight::from_bits(flags / 0x0080_0000 % 4),
-            label: label,
-            colour: word(image, at + 10),
-            label_colour: word(image, at + 11),
-        }
+// Where an edge begins and ends.
+struct Ends {
+    from_x: u32,
+    from_y: u32,
+    to_x: u32,
+    to_y: u32,
+}
+
+fn ends_at(image: &[u32], edges: Table, k: usize) -> Ends
+    requires { ⌜ Small edges × (k < 4294967296) ⌝ }
+    ensures { λ r. ⌜ r ≡ endsAt (now (image .entry)) edges k ⌝ }
+{
+    Ends {
+        from_x: field(image, edges, k, layout::EDGE_FROM_X),
+        from_y: field(image, edges, k, layout::EDGE_FROM_Y),
+        to_x: field(image, edges, k, layout::EDGE_TO_X),
+        to_y: field(image, edges, k, layout::EDGE_TO_Y),
     }
 }
 
+// What an edge's flags say beside its path and its label.
+struct Style {
+    flow_axis: FlowAxis,
+    reversed: bool,
+    start_marker: bool,
+    end_marker: bool,
+    weight: Weight,
+}
+
+fn style_at(image: &[u32], edges: Table, k: usize) -> Style
+    requires { ⌜ Small edges × (k < 4294967296) ⌝ }
+    ensures { λ r. ⌜ r ≡ styleAt (now (image .entry)) edges k ⌝ }
+{
+    let flags = field(image, edges, k, layout::EDGE_FLAGS);
+    Style {
+        flow_axis: FlowAxis::of(flag(flags, layout::FLOW_X)),
+        reversed: flag(flags, layout::REVERSED),
+        start_marker: flag(flags, layout::START_MARKER),
+        end_marker: flag(flags, layout::END_MARKER),
+        weight: Weight::from_bits(bits(flags, layout::WEIGHT_STEP, layout::WEIGHTS)),
+    }
+}
+
+fn path_at(image: &[u32], edges: Table, k: usize) -> Path
+    requires { ⌜ Small edges × (k < 4294967296) ⌝ }
+    ensures { λ r. ⌜ r ≡ pathAt (now (image .entry)) edges k ⌝ }
+{
+    let flags = field(image, edges, k, layout::EDGE_FLAGS);
+    Path::of(
+        bits(flags, layout::PATH_STEP, layout::PATHS),
+        field(image, edges, k, layout::EDGE_A),
+        field(image, edges, k, layout::EDGE_B),
+        field(image, edges, k, layout::EDGE_C),
+    )
+}
+
+fn edge_label_at(image: &[u32], edges: Table, k: usize) -> EdgeLabel
+    requires { ⌜ Small edges × (k < 4294967296) ⌝ }
+    ensures { λ r. ⌜ r ≡ edgeLabelAt (now (image .entry)) edges k ⌝ }
+{
+    EdgeLabel::of(
+        flag(
+            field(image, edges, k, layout::EDGE_FLAGS),
+            layout::LABEL_PRESENT,
+        ),
+        span_at(
+            image,
+            edges,
+            k,
+            layout::EDGE_LABEL_START,
+            layout::EDGE_LABEL_COUNT,
+        ),
+    )
+}
+
+pub fn edge_at(image: &[u32], ts: Tables, k: usize) -> Edge
+    requires { ⌜ AllSmall ts × (k < 4294967296) ⌝ }
+    ensures { λ r. ⌜ r ≡ edgeAt (now (image .entry)) ts k ⌝ }
+{
+    let edges = ts.edges;
+    let ends = ends_at(image, edges, k);
+    let style = style_at(image, edges, k);
+    let flow_axis = style.flow_axis;
+    let weight = style.weight;
+    Edge {
+        from_x: ends.from_x,
+        from_y: ends.from_y,
+        to_x: ends.to_x,
+        to_y: ends.to_y,
+        path: path_at(image, edges, k),
+        flow_axis: flow_axis,
+        reversed: style.reversed,
+        start_marker: style.start_marker,
+        end_marker: style.end_marker,
+        weight: weight,
+        label: edge_label_at(image, edges, k),
+        colour: field(image, edges, k, layout::EDGE_COLOUR),
+        label_colour: field(image, edges, k, layout::EDGE_LABEL_COLOUR),
+    }
+}
+
+// Where in a subgraph its label stands.
 pub enum LabelPosition {
+    // on the row below its upper border
     InsideTop,
+    // on the row above its lower border
     InsideBottom,
 }
 
 pub struct Subgraph {
+    // left column
     pub x: u32,
+    // top row
     pub y: u32,
+    // columns
     pub width: u32,
+    // rows
     pub height: u32,
+    // the glyphs of its label
     pub label: Span,
+    // the weight of its border, None without one
     pub border: Weight,
     pub position: LabelPosition,
+    // of its border; 0 keeps what is there
     pub colour: u32,
 }
 
 impl LabelPosition {
-    pub fn from_bit(bottom: bool) -> LabelPosition
+    pub fn of(bottom: bool) -> LabelPosition
         ensures { λ r. ⌜ r ≡ positionOf bottom ⌝ }
     {
         if bottom {
@@ -393,50 +453,75 @@ impl LabelPosition {
     }
 }
 
-impl Subgraph {
-    pub fn read(image: &[u32], at: usize) -> Subgraph
-        requires { ⌜ at < 0x20000000000 ⌝ }
-        ensures { λ r. ⌜ r ≡ subgraphFrom (now (image .entry)) at ⌝ }
-    {
-        let flags = word(image, at + 6);
-        Subgraph {
-            x: word(image, at),
-            y: word(image, at + 1),
-            width: word(image, at + 2),
-            height: word(image, at + 3),
-            label: Span::read(image, at + 4),
-            border: Weight::from_bits(flags / 0x4000_0000),
-            position: LabelPosition::from_bit(flag(flags, 0x2000_0000)),
-            colour: word(image, at + 7),
-        }
+fn border_at(image: &[u32], subgraphs: Table, k: usize) -> Weight
+    requires { ⌜ Small subgraphs × (k < 4294967296) ⌝ }
+    ensures { λ r. ⌜ r ≡ borderAt (now (image .entry)) subgraphs k ⌝ }
+{
+    let flags = field(image, subgraphs, k, layout::SUBGRAPH_FLAGS);
+    Weight::from_bits(bits(flags, layout::BORDER_STEP, layout::BORDERS))
+}
+
+fn position_at(image: &[u32], subgraphs: Table, k: usize) -> LabelPosition
+    requires { ⌜ Small subgraphs × (k < 4294967296) ⌝ }
+    ensures { λ r. ⌜ r ≡ positionAt (now (image .entry)) subgraphs k ⌝ }
+{
+    let flags = field(image, subgraphs, k, layout::SUBGRAPH_FLAGS);
+    LabelPosition::of(flag(flags, layout::INSIDE_BOTTOM))
+}
+
+pub fn subgraph_at(image: &[u32], ts: Tables, k: usize) -> Subgraph
+    requires { ⌜ AllSmall ts × (k < 4294967296) ⌝ }
+    ensures { λ r. ⌜ r ≡ subgraphAt (now (image .entry)) ts k ⌝ }
+{
+    let subgraphs = ts.subgraphs;
+    Subgraph {
+        x: field(image, subgraphs, k, layout::SUBGRAPH_X),
+        y: field(image, subgraphs, k, layout::SUBGRAPH_Y),
+        width: field(image, subgraphs, k, layout::SUBGRAPH_WIDTH),
+        height: field(image, subgraphs, k, layout::SUBGRAPH_HEIGHT),
+        label: span_at(
+            image,
+            subgraphs,
+            k,
+            layout::SUBGRAPH_LABEL_START,
+            layout::SUBGRAPH_LABEL_COUNT,
+        ),
+        border: border_at(image, subgraphs, k),
+        position: position_at(image, subgraphs, k),
+        colour: field(image, subgraphs, k, layout::SUBGRAPH_COLOUR),
     }
 }
 
 // Where the planner has put an edge's label.
 pub struct PlacedLabel {
+    // whose label it is, by index
     pub edge: u32,
+    // the column of its first quote
     pub x: u32,
+    // its row
     pub y: u32,
+    // whether there is room for it
     pub placeable: bool,
+    // whether a node stands in its row
     pub row_has_node: bool,
 }
 
-impl PlacedLabel {
-    pub fn read(image: &[u32], at: usize) -> PlacedLabel
-        requires { ⌜ at < 0x20000000000 ⌝ }
-        ensures { λ r. ⌜ r ≡ placedLabelFrom (now (image .entry)) at ⌝ }
-    {
-        let flags = word(image, at + 3);
-        PlacedLabel {
-            edge: word(image, at),
-            x: word(image, at + 1),
-            y: word(image, at + 2),
-            placeable: flag(flags, 0x8000_0000),
-            row_has_node: flag(flags, 0x4000_0000),
-        }
+pub fn placed_label_at(image: &[u32], ts: Tables, k: usize) -> PlacedLabel
+    requires { ⌜ AllSmall ts × (k < 4294967296) ⌝ }
+    ensures { λ r. ⌜ r ≡ placedLabelAt (now (image .entry)) ts k ⌝ }
+{
+    let labels = ts.labels;
+    let flags = field(image, labels, k, layout::LABEL_FLAGS);
+    PlacedLabel {
+        edge: field(image, labels, k, layout::LABEL_EDGE),
+        x: field(image, labels, k, layout::LABEL_X),
+        y: field(image, labels, k, layout::LABEL_Y),
+        placeable: flag(flags, layout::PLACEABLE),
+        row_has_node: flag(flags, layout::ROW_HAS_NODE),
     }
 }
 
+// What an element lists.
 pub enum ElementKind {
     Node,
     Edge,
@@ -446,16 +531,19 @@ pub enum ElementKind {
 // The planner's listing of one thing: the rows that it may touch.
 pub struct Element {
     pub kind: ElementKind,
+    // which thing of the kind
     pub index: u32,
+    // the first row that the thing may touch
     pub first_row: u32,
+    // the last row that the thing may touch
     pub last_row: u32,
 }
 
 impl ElementKind {
-    pub fn from_word(n: u32) -> ElementKind
-        ensures { λ r. ⌜ r ≡ elementKindOf n ⌝ }
+    pub fn of(number: u32) -> ElementKind
+        ensures { λ r. ⌜ r ≡ elementKindOf number ⌝ }
     {
-        match n {
+        match number {
             0 => ElementKind::Node,
             1 => ElementKind::Edge,
             _ => ElementKind::Subgraph,
@@ -463,18 +551,87 @@ impl ElementKind {
     }
 }
 
-impl Element {
-    pub fn read(image: &[u32], at: usize) -> Element
-        requires { ⌜ at < 0x20000000000 ⌝ }
-        ensures { λ r. ⌜ r ≡ elementFrom (now (image .entry)) at ⌝ }
-    {
-        Element {
-            kind: ElementKind::from_word(word(image, at)),
-            index: word(image, at + 1),
-            first_row: word(image, at + 2),
-            last_row: word(image, at + 3),
-        }
+pub fn element_kind_number(kind: ElementKind) -> u32
+    ensures { λ r. ⌜ (r ≡ elementKindNumber kind) × (r ≤ 2) ⌝ }
+{
+    match kind {
+        ElementKind::Node => 0,
+        ElementKind::Edge => 1,
+        ElementKind::Subgraph => 2,
     }
+}
+
+// The table of a kind of thing.
+pub fn thing_table(kind: ElementKind, ts: Tables) -> Table
+    requires { ⌜ AllSmall ts ⌝ }
+    ensures { λ r. ⌜ (r ≡ thingTable kind ts) × Small r ⌝ }
+{
+    match kind {
+        ElementKind::Node => ts.nodes,
+        ElementKind::Edge => ts.edges,
+        ElementKind::Subgraph => ts.subgraphs,
+    }
+}
+
+pub fn element_at(image: &[u32], ts: Tables, k: usize) -> Element
+    requires { ⌜ AllSmall ts × (k < 4294967296) ⌝ }
+    ensures { λ r. ⌜ r ≡ elementAt (now (image .entry)) ts k ⌝ }
+{
+    let elements = ts.elements;
+    Element {
+        kind: ElementKind::of(field(image, elements, k, layout::ELEMENT_KIND)),
+        index: field(image, elements, k, layout::ELEMENT_INDEX),
+        first_row: field(image, elements, k, layout::ELEMENT_FIRST_ROW),
+        last_row: field(image, elements, k, layout::ELEMENT_LAST_ROW),
+    }
+}
+
+fn path_span(path: Path) -> Span
+    ensures { λ r. ⌜ r ≡ pathSpan path ⌝ }
+{
+    match path {
+        Path::MultiSegment {
+            points,
+            start_offset,
+        } => points,
+        Path::Orthogonal(points) => points,
+        _ => Span { start: 0, count: 0 },
+    }
+}
+
+// The points of an edge's path.
+pub fn points_of(image: &[u32], ts: Tables, edge: Edge) -> &[u32]
+    requires { ⌜ AllSmall ts ⌝ }
+    ensures { λ r. ⌜ now r ≡ pointsOf (now (image .entry)) ts edge ⌝ }
+{
+    let points = ts.points;
+    let path = edge.path;
+    span_words(image, points, path_span(path))
+}
+
+// The glyphs of a label.
+pub fn glyphs_of(image: &[u32], ts: Tables, span: Span) -> &[u32]
+    requires { ⌜ AllSmall ts ⌝ }
+    ensures { λ r. ⌜ now r ≡ glyphsOf (now (image .entry)) ts span ⌝ }
+{
+    let glyphs = ts.glyphs;
+    span_words(image, glyphs, span)
+}
+
+// The width ranges.
+pub fn ranges_of(image: &[u32], ts: Tables) -> &[u32]
+    requires { ⌜ AllSmall ts ⌝ }
+    ensures { λ r. ⌜ now r ≡ rangesOf (now (image .entry)) ts ⌝ }
+{
+    let ranges = ts.ranges;
+    span_words(
+        image,
+        ranges,
+        Span {
+            start: 0,
+            count: ranges.count as u32,
+        },
+    )
 }
 
 pub struct Point {
@@ -482,14 +639,21 @@ pub struct Point {
     pub y: u32,
 }
 
-impl Point {
-    pub fn read(words: &[u32], at: usize) -> Point
-        requires { ⌜ at < 0x20000000000 ⌝ }
-        ensures { λ r. ⌜ r ≡ pointFrom (now (words .entry)) at ⌝ }
-    {
-        Point {
-            x: word(words, at),
-            y: word(words, at + 1),
-        }
+// How many points such a part has.
+pub fn point_count(points: &[u32]) -> usize
+    ensures { λ r. ⌜ r ≡ pointCount (now (points .entry)) ⌝ }
+{
+    points.len() / layout::POINT_SIZE
+}
+
+// Point k of such a part.
+pub fn point_at(points: &[u32], k: usize) -> Point
+    requires { ⌜ k < pointCount (now points) ⌝ }
+    ensures { λ r. ⌜ r ≡ pointAt (now (points .entry)) k ⌝ }
+{
+    let at = layout::POINT_SIZE * k;
+    Point {
+        x: points[at + layout::POINT_X],
+        y: points[at + layout::POINT_Y],
     }
 }

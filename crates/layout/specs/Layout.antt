@@ -254,8 +254,8 @@ rangeWidth = 2
 abbrev pub rangeSize : ℕ
 rangeSize = 3
 
--- "Flag fields are packed from bit 31 down": a flag of one bit by the value of that bit, a number of more bits by the value of its lowest, its step;
--- "spare bits are 0": the bits below the value that ends in Spare.
+-- "Flag fields are packed from bit 31 down": a flag of one bit by the value of that bit; a number of more bits by the value of its lowest bit, its step,
+-- and by how many values its bits have; "spare bits are 0": the bits below the value that ends in Spare.
 
 -- header flags: "label policy 1 bit: 0 Geometric, 1 AvoidNodeRows; show dummies 1 bit"
 
@@ -273,6 +273,9 @@ headerSpare = 0x40000000
 abbrev pub nodeKindStep : ℕ
 nodeKindStep = 0x40000000
 
+abbrev pub nodeKinds : ℕ
+nodeKinds = 4
+
 abbrev pub selfLoop : ℕ
 selfLoop = 0x20000000
 
@@ -284,6 +287,9 @@ nodeSpare = 0x20000000
 
 abbrev pub pathStep : ℕ
 pathStep = 0x20000000
+
+abbrev pub paths : ℕ
+paths = 8
 
 abbrev pub flowX : ℕ
 flowX = 0x10000000
@@ -333,6 +339,9 @@ pathSpline = 5
 
 abbrev pub borderStep : ℕ
 borderStep = 0x40000000
+
+abbrev pub borders : ℕ
+borders = 4
 
 abbrev pub insideBottom : ℕ
 insideBottom = 0x20000000

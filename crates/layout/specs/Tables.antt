@@ -12,9 +12,13 @@ use Rattle.layout.specs.Layout.{nodeSize, edgeSize, subgraphSize, labelS
 abbrev pub word : List ℕ → ℕ → ℕ
 word image place = getD image place 0
 
--- "Flag fields are packed from bit 31 down": the flag at the bit of this value
+-- "Flag fields are packed from bit 31 down": the number that stands at the bits from this step up, and the flag at the bit of this value
+
+abbrev pub bits : ℕ → ℕ → ℕ → ℕ
+bits flags step values = flags / step % values
+
 abbrev pub flag : ℕ → ℕ → Bool
-flag flags bit = eqb (flags / bit % 2) 1
+flag flags bit = eqb (bits flags bit 2) 1
 
 -- "Tables follow in that order": each begins where the one before it, and the first where the header, ends; its count stands in the header.
 

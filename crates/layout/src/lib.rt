@@ -2,7 +2,7 @@
 // word past the end reads 0.
 ghost use mathlib.Core.Path.{_≡_};
 ghost use Prim.Native.Nat.{_+_, _*_, _≤_, _<_};
-ghost use Rattle.layout.specs.Tables.{word, flag, tableEnd, tablesOf, recordAt, placeOf, field};
+ghost use Rattle.layout.specs.Tables.{word, bits, flag, tableEnd, tablesOf, recordAt, placeOf, field};
 ghost use Rattle.layout.specs.Fields.{tableOf, fieldIn, fieldInOr, fieldPastLabels, fieldAt};
 ghost use Rattle.layout.specs.Small.{Small, Follows, AllSmall};
 
@@ -173,8 +173,9 @@ pub const RANGE_WIDTH: usize = 2;
 
 pub const RANGE_SIZE: usize = 3;
 
-// "Flag fields are packed from bit 31 down": a flag of one bit by the value of that bit, a number of more bits by the
-// value of its lowest, its step; "spare bits are 0": the bits below the value that ends in Spare.
+// "Flag fields are packed from bit 31 down": a flag of one bit by the value of that bit; a number of more bits by the
+// value of its lowest bit, its step, and by how many values its bits have; "spare bits are 0": the bits below the value
+// that ends in SPARE.
 
 // header flags: "label policy 1 bit: 0 Geometric, 1 AvoidNodeRows; show dummies 1 bit"
 pub const AVOID_NODE_ROWS: u32 = 0x8000_0000;
@@ -186,6 +187,8 @@ pub const HEADER_SPARE: u32 = 0x4000_0000;
 // node flags: "kind 2 bits: 0 simple, 1 boxed, 2 blank, 3 dummy; self-loop 1 bit"
 pub const NODE_KIND_STEP: u32 = 0x4000_0000;
 
+pub const NODE_KINDS: u32 = 4;
+
 pub const SELF_LOOP: u32 = 0x2000_0000;
 
 pub const NODE_SPARE: u32 = 0x2000_0000;
@@ -193,6 +196,8 @@ pub const NODE_SPARE: u32 = 0x2000_0000;
 // edge flags: "path 3 bits .. flow axis 1 (0 Y, 1 X), reversed 1, start marker 1, end marker 1, weight 2 (1 Dashed, 2
 // Light, 3 Double), label present 1"
 pub const PATH_STEP: u32 = 0x2000_0000;
+
+pub const PATHS: u32 = 8;
 
 pub const FLOW_X: u32 = 0x1000_0000;
 
@@ -226,6 +231,8 @@ pub const PATH_SPLINE: u32 = 5;
 // subgraph flags: "border 2 bits, 0 none, else as edge weight; label position 1 bit, 0 InsideTop, 1 InsideBottom"
 pub const BORDER_STEP: u32 = 0x4000_0000;
 
+pub const BORDERS: u32 = 4;
+
 pub const INSIDE_BOTTOM: u32 = 0x2000_0000;
 
 pub const SUBGRAPH_SPARE: u32 = 0x2000_0000;
@@ -241,6 +248,14 @@ pub fn word(image: &[u32], place: usize) -> u32
     ensures { λ r. ⌜ r ≡ word (now (image .entry)) place ⌝ }
 {
     if place < image.len() { image[place] } else { 0 }
+}
+
+// The number that stands at the bits from this step up.
+pub fn bits(flags: u32, step: u32, values: u32) -> u32
+    requires { ⌜ (0 < step) × (0 < values) ⌝ }
+    ensures { λ r. ⌜ r ≡ bits flags step values ⌝ }
+{
+    flags / step % values
 }
 
 // Whether the flag at the bit of this value is set.

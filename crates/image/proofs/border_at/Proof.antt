@@ -1,0 +1,10 @@
+-- `border_at` reads the weight of a subgraph's border.
+use borrow.Author.Needs.{needs}
+use Rattle.image.proofs.border_at.Statement.{statement}
+use Rattle.image.proofs.border_at.Tie as tie
+
+returns : tie.Need-returns
+returns c = cc
+
+pub border-at-spec : {M : Type 1} → statement M
+border-at-spec = tie.close (tie.spec (λ c κs. search needs) (λ c κs. search needs) (λ c κs. search needs) returns)

@@ -1,0 +1,11 @@
+-- `ends_at` reads where an edge begins and ends.
+use borrow.Author.Needs.{needs}
+use Rattle.image.proofs.ends_at.Statement.{statement}
+use Rattle.image.proofs.ends_at.Tie as tie
+
+returns : tie.Need-returns
+returns c = cc
+
+pub ends-at-spec : {M : Type 1} → statement M
+ends-at-spec =
+    tie.close (tie.spec (λ c κs. search needs) (λ c κs. search needs) (λ c κs. search needs) (λ c κs. search needs) returns)

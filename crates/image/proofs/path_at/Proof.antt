@@ -1,0 +1,19 @@
+-- `path_at` reads the path of an edge.
+use borrow.Author.Needs.{needs}
+use Rattle.image.proofs.path_at.Statement.{statement}
+use Rattle.image.proofs.path_at.Tie as tie
+
+returns : tie.Need-returns
+returns c = cc
+
+pub path-at-spec : {M : Type 1} → statement M
+path-at-spec =
+    tie.close
+    (tie.spec
+    (λ c κs. search needs)
+    (λ c κs. search needs)
+    (λ c κs. search needs)
+    (λ c κs. search needs)
+    (λ c κs. search needs)
+    (λ c κs. search needs)
+    returns)

@@ -1,0 +1,12 @@
+-- `points_of` gives the points of an edge's path.
+use borrow.Author.Needs.{needs}
+use Rattle.image.specs.Spans.{pointsOf}
+use Rattle.image.proofs.points_of.Statement.{statement}
+use Rattle.image.proofs.points_of.Tie as tie
+
+returns : tie.Need-returns
+unfolding pointsOf
+returns c = cc
+
+pub points-of-spec : {M : Type 1} → statement M
+points-of-spec = tie.close (tie.spec (λ c κs. search needs) (λ c κs. search needs) returns)
