@@ -1,0 +1,2 @@
+-- What is shown of both flows: the laws that the functions' proofs cite, and the theorems.
+pub mod Signed

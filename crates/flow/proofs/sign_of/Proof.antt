@@ -1,0 +1,12 @@
+-- `sign_of` gives the flow's sign as a number.
+use Rattle.flow.proofs.sign_of.Statement.{statement}
+use Rattle.flow.proofs.sign_of.Tie as tie
+
+returns : tie.Need-returns
+returns c = rw (c .if1 .taken)
+
+returns-2 : tie.Need-returns-2
+returns-2 c = rw (c .if1 .left)
+
+pub sign-of-spec : {M : Type 1} → statement M
+sign-of-spec = tie.close (tie.spec returns returns-2)

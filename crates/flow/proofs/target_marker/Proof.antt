@@ -1,0 +1,12 @@
+-- `target_marker` gives the marker at the target, swapped where the edge is reversed.
+use Rattle.flow.proofs.target_marker.Statement.{statement}
+use Rattle.flow.proofs.target_marker.Tie as tie
+
+returns : tie.Need-returns
+returns c = rw (c .if1 .taken)
+
+returns-2 : tie.Need-returns-2
+returns-2 c = rw (c .if1 .left)
+
+pub target-marker-spec : {M : Type 1} → statement M
+target-marker-spec = tie.close (tie.spec returns returns-2)
