@@ -1,2 +1,4 @@
 -- What is shown of both flows: the laws that the functions' proofs cite, and the theorems.
 pub mod Signed
+pub mod Reached
+pub mod Theorems

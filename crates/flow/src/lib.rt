@@ -10,6 +10,9 @@ use cell::Arms;
 use cell::Dir;
 use cell::Weight;
 use image::Edge;
+use rows::Rows;
+
+pub mod touch;
 
 // A signed sum as a row or a column.
 pub enum Coordinate {
@@ -105,6 +108,14 @@ pub struct Leg {
     pub first: bool,
     // it ends at the target
     pub last: bool,
+}
+
+// What ink reaches in a window of rows.
+pub struct Reach {
+    // the rows that it touches, from the first to the last
+    pub rows: Rows,
+    // how many runs it makes there
+    pub runs: usize,
 }
 
 // 1 with the rows or columns, -1 against them.

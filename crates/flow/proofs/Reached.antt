@@ -1,0 +1,74 @@
+-- What pieces reach: the rows of a line by its ends, what is no run, and the reach of pieces one after the other.
+use native.Mathlib.Omega.{arith}
+use Prim.Native.Nat.{ℕ, _+_, _-_, _≤_, _<_, min, max}
+use mathlib.Core.Path.{_≡_, refl, sym, _∙_}
+use mathlib.Core.List.{List, [], _∷_, _++_}
+use borrow.Author.Tests.{lt-ltb, le-ltb}
+use types.Run.{OneOf, miss}
+use denote.Enum.Declared.{tagOf}
+use Rattle.rows.specs.declared.Rows.{Rows}
+use Rattle.rows.specs.declared.Rows.the-variants as rows
+use Rattle.rows.specs.declared.Window.{Window}
+use Rattle.rows.specs.Computed.{windowRows}
+use Rattle.rows.proofs.Windows.{clipped-none}
+use Rattle.rows.proofs.Theorems.{join-assoc, join-none}
+use Rattle.flow.specs.declared.Piece.{Piece}
+use Rattle.flow.specs.declared.Piece.the-variants.{Nothing, Vertical, Horizontal, Run, Stroke, Mark}
+use Rattle.flow.specs.declared.Reach.{Reach}
+use Rattle.flow.specs.Pieces.{pieceRunsIn}
+use Rattle.flow.specs.Reach.{verticalRows, horizontalRows, noReach, pieceReach, joinReach, reachOf}
+use Rattle.flow.proofs.Piece.{the-type}
+
+-- The rows of a line by how far its ends lie apart: none where no cell lies between them, else its own.
+
+module _ (window : Window) (from to : ℕ) where
+  pub vertical-short : max from to - min from to < 2 → rows.None ≡ verticalRows window from to
+  unfolding verticalRows
+  vertical-short h = clipped-none window (min from to + 1) (max from to - 1) (omega arith)
+
+  pub horizontal-short : (row : ℕ) → max from to - min from to < 2 → rows.None ≡ horizontalRows window row from to
+  unfolding horizontalRows
+  horizontal-short row h = rw (le-ltb (min from to + 1) (max from to) (omega arith))
+
+  pub horizontal-long :
+      (row : ℕ) (r : Rows) → 2 ≤ max from to - min from to → r ≡ windowRows window row row → r ≡ horizontalRows window row from to
+  unfolding horizontalRows
+  horizontal-long row r h e = rw (lt-ltb (min from to + 1) (max from to) (omega arith)) e
+
+-- What is no run makes none.
+
+abbrev no-runs : List ℕ
+no-runs = 0 ∷ 1 ∷ 2 ∷ 4 ∷ 5 ∷ []
+
+pub no-run : (window : Window) (p : Piece) → OneOf no-runs (tagOf the-type p) → 0 ≡ pieceRunsIn window p
+unfolding pieceRunsIn
+no-run window Nothing k = refl
+no-run window (Vertical l) k = refl
+no-run window (Horizontal l) k = refl
+no-run window (Run row first last) k = absurd (miss no-runs 3 tt k)
+no-run window (Stroke x y arms) k = refl
+no-run window (Mark x y dir) k = refl
+
+-- Of three together it does not matter which two are joined first; and no reach adds nothing.
+
+pub join-reach-assoc : (a b c : Reach) → joinReach (joinReach a b) c ≡ joinReach a (joinReach b c)
+join-reach-assoc a b c =
+    let n : a .runs + b .runs + c .runs ≡ a .runs + (b .runs + c .runs) = omega arith in
+    rw (join-assoc (a .rows) (b .rows) (c .rows), n)
+
+pub join-no-reach : (a : Reach) → joinReach a noReach ≡ a
+join-no-reach a = let n : a .runs + 0 ≡ a .runs = omega arith in rw (join-none (a .rows), n)
+
+pub no-reach-join : (a : Reach) → joinReach noReach a ≡ a
+no-reach-join a = let n : 0 + a .runs ≡ a .runs = omega arith in rw n
+
+-- The reach of pieces one after the other.
+
+pub reach-append : (window : Window) (k l : List Piece) → reachOf window (k ++ l) ≡ joinReach (reachOf window k) (reachOf window l)
+unfolding reachOf
+reach-append window [] l = sym (no-reach-join (reachOf window l))
+reach-append window (p ∷ k) l = rw (reach-append window k l) (sym (join-reach-assoc (pieceReach window p) (reachOf window k) (reachOf window l)))
+
+pub reach-one : (window : Window) (p : Piece) → reachOf window (p ∷ []) ≡ pieceReach window p
+unfolding reachOf
+reach-one window p = join-no-reach (pieceReach window p)

@@ -1,0 +1,22 @@
+-- `piece_runs` counts a run on a row of the window.
+use borrow.Author.Needs.{needs}
+use native.Mathlib.Omega.{arith}
+use Rattle.flow.specs.Pieces.{pieceRunsIn}
+use Rattle.flow.proofs.Reached.{no-run}
+use Rattle.flow.proofs.touch.piece_runs.Statement.{statement}
+use Rattle.flow.proofs.touch.piece_runs.Tie as tie
+
+returns : tie.Need-returns
+returns c = (no-run _ _ (c .match .keys2), omega arith)
+
+returns-2 : tie.Need-returns-2
+unfolding pieceRunsIn
+returns-2 c = (rw (c .before .before .before .piece .given .1, ← c .before .has .ensures, c .if1 .taken), omega arith)
+
+returns-3 : tie.Need-returns-3
+unfolding pieceRunsIn
+returns-3 c = (rw (c .before .before .before .piece .given .1, ← c .before .has .ensures, c .if1 .left), omega arith)
+
+pub piece-runs-spec : {M : Type 1} → statement M
+piece-runs-spec =
+    tie.close (tie.spec (λ c. search needs) returns (λ c κs. search needs) returns-2 returns-3)

@@ -1,0 +1,26 @@
+-- `vertical_rows` gives the rows strictly between two.
+use borrow.Author.Needs.{needs}
+use Rattle.flow.specs.Reach.{verticalRows}
+use Rattle.flow.proofs.Reached.{vertical-short}
+use Rattle.flow.proofs.touch.vertical_rows.Statement.{statement}
+use Rattle.flow.proofs.touch.vertical_rows.Tie as tie
+
+returns : tie.Need-returns
+returns c = vertical-short _ _ _ (search needs)
+
+returns-2 : tie.Need-returns-2
+unfolding verticalRows
+returns-2 c = cc
+
+pub vertical-rows-spec : {M : Type 1} → statement M
+vertical-rows-spec =
+    tie.close
+    (tie.spec
+    (λ c κs. search needs)
+    (λ c κs. search needs)
+    (λ c. search needs)
+    returns
+    (λ c. search needs)
+    (λ c. search needs)
+    (λ c κs. search needs)
+    returns-2)
