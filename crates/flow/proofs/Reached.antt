@@ -16,7 +16,7 @@ use Rattle.flow.specs.declared.Piece.{Piece}
 use Rattle.flow.specs.declared.Piece.the-variants.{Nothing, Vertical, Horizontal, Run, Stroke, Mark}
 use Rattle.flow.specs.declared.Reach.{Reach}
 use Rattle.flow.specs.Pieces.{pieceRunsIn}
-use Rattle.flow.specs.Reach.{verticalRows, horizontalRows, noReach, pieceReach, joinReach, reachOf}
+use Rattle.flow.specs.Reach.{verticalRows, horizontalRows, pieceRows, noReach, pieceReach, joinReach, withRows, reachOf}
 use Rattle.flow.proofs.Piece.{the-type}
 
 -- The rows of a line by how far its ends lie apart: none where no cell lies between them, else its own.
@@ -62,7 +62,26 @@ join-no-reach a = let n : a .runs + 0 ≡ a .runs = omega arith in rw (join-none
 pub no-reach-join : (a : Reach) → joinReach noReach a ≡ a
 no-reach-join a = let n : 0 + a .runs ≡ a .runs = omega arith in rw n
 
--- The reach of pieces one after the other.
+-- The reach of pieces one after the other, onto what is reached already.
+
+abbrev pub reachOnto : Window → Reach → List Piece → Reach
+reachOnto window reach [] = reach
+reachOnto window reach (p ∷ rest) = reachOnto window (joinReach reach (pieceReach window p)) rest
+
+pub reach-onto : (window : Window) (reach : Reach) (pieces : List Piece) → reachOnto window reach pieces ≡ joinReach reach (reachOf window pieces)
+unfolding reachOf
+reach-onto window reach [] = sym (join-no-reach reach)
+reach-onto window reach (p ∷ rest) =
+    reach-onto window (joinReach reach (pieceReach window p)) rest
+    ∙ join-reach-assoc reach (pieceReach window p) (reachOf window rest)
+
+-- A piece that is no run adds its rows.
+pub with-piece-rows :
+    (window : Window) (reach : Reach) (p : Piece) (r : Rows) →
+    pieceRows window p ≡ r →
+    pieceRunsIn window p ≡ 0 →
+    joinReach reach (pieceReach window p) ≡ withRows reach r
+with-piece-rows window reach p r h n = let m : reach .runs + 0 ≡ reach .runs = omega arith in rw (h, n, m)
 
 pub reach-append : (window : Window) (k l : List Piece) → reachOf window (k ++ l) ≡ joinReach (reachOf window k) (reachOf window l)
 unfolding reachOf

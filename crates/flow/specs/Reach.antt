@@ -15,6 +15,10 @@ use Rattle.flow.specs.declared.Piece.the-variants.{Nothing, Vertical, Ho
 use Rattle.flow.specs.declared.Reach.{Reach}
 use Rattle.flow.specs.Pieces.{pieceRunsIn}
 
+-- a row, where it is touched
+abbrev pub rowIf : Window → Bool → ℕ → Rows
+rowIf window touched row = cond touched (windowRows window row row) rows.None
+
 -- strictly between two numbers lies at least one
 abbrev pub hasInside : ℕ → ℕ → Bool
 hasInside from to = ltb (min from to + 1) (max from to)
@@ -25,7 +29,7 @@ unfoldable pub verticalRows : Window → ℕ → ℕ → Rows
 verticalRows window from to = windowRows window (min from to + 1) (max from to - 1)
 
 unfoldable pub horizontalRows : Window → ℕ → ℕ → ℕ → Rows
-horizontalRows window row from to = cond (hasInside from to) (windowRows window row row) rows.None
+horizontalRows window row from to = rowIf window (hasInside from to) row
 
 unfoldable pub pieceRows : Window → Piece → Rows
 pieceRows window Nothing = rows.None
@@ -35,7 +39,7 @@ pieceRows window (Run row first last) = windowRows window row row
 pieceRows window (Stroke x y arms) = windowRows window y y
 pieceRows window (Mark x y dir) = windowRows window y y
 
--- the rows and the runs of nothing, of a piece, of two together, and of many pieces
+-- the rows and the runs of nothing, of a piece, of two together, with rows more, and of many pieces
 
 abbrev pub noReach : Reach
 noReach = record { rows = rows.None; runs = 0 }
@@ -45,6 +49,9 @@ pieceReach window p = record { rows = pieceRows window p; runs = pieceRunsIn win
 
 abbrev pub joinReach : Reach → Reach → Reach
 joinReach a b = record { rows = joinRows (a .rows) (b .rows); runs = a .runs + b .runs }
+
+abbrev pub withRows : Reach → Rows → Reach
+withRows reach more = record { rows = joinRows (reach .rows) more; runs = reach .runs }
 
 unfoldable pub reachOf : Window → List Piece → Reach
 reachOf window [] = noReach

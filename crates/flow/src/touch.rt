@@ -2,11 +2,22 @@
 ghost use mathlib.Core.Path.{_≡_};
 ghost use Prim.Native.Nat.{_+_, _≤_, _<_};
 ghost use Rattle.flow.specs.Pieces.{pieceRunsIn};
-ghost use Rattle.flow.specs.Reach.{verticalRows, horizontalRows, pieceRows, noReach, pieceReach, joinReach};
+ghost use Rattle.flow.specs.Reach.{rowIf, verticalRows, horizontalRows, pieceRows, noReach, pieceReach, joinReach, withRows};
 use crate::Piece;
 use crate::Reach;
 use rows::Rows;
 use rows::Window;
+
+// A row, where it is touched.
+pub fn row_if(window: Window, touched: bool, row: usize) -> Rows
+    ensures { λ r. ⌜ r ≡ rowIf window touched row ⌝ }
+{
+    if touched {
+        window.clip(row, row)
+    } else {
+        Rows::None
+    }
+}
 
 // The rows strictly between two rows.
 pub fn vertical_rows(window: Window, from: usize, to: usize) -> Rows
@@ -72,5 +83,16 @@ pub fn with_piece(reach: Reach, window: Window, piece: Piece) -> Reach
     Reach {
         rows: rows.join(piece_rows(window, piece)),
         runs: reach.runs + piece_runs(window, piece),
+    }
+}
+
+// What is reached with rows more.
+pub fn with_rows(reach: Reach, more: Rows) -> Reach
+    ensures { λ r. ⌜ r ≡ withRows reach more ⌝ }
+{
+    let rows = reach.rows;
+    Reach {
+        rows: rows.join(more),
+        runs: reach.runs,
     }
 }

@@ -1,0 +1,14 @@
+-- `with_rows` joins rows more.
+use borrow.Author.Needs.{needs}
+use Rattle.flow.proofs.touch.with_rows.Statement.{statement}
+use Rattle.flow.proofs.touch.with_rows.Tie as tie
+
+returns : tie.Need-returns
+returns c = cc
+
+pub with-rows-spec : {M : Type 1} → statement M
+with-rows-spec =
+    tie.close
+    (tie.spec
+    (λ c κs. search needs)
+    returns)
