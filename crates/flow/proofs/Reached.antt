@@ -2,6 +2,7 @@
 use native.Mathlib.Omega.{arith}
 use Prim.Native.Nat.{ℕ, _+_, _-_, _≤_, _<_, min, max}
 use mathlib.Core.Path.{_≡_, refl, sym, _∙_}
+use mathlib.Core.Bool.{Bool, true, false, cond}
 use mathlib.Core.List.{List, [], _∷_, _++_}
 use borrow.Author.Tests.{lt-ltb, le-ltb}
 use types.Run.{OneOf, miss}
@@ -9,6 +10,7 @@ use denote.Enum.Declared.{tagOf}
 use Rattle.rows.specs.declared.Rows.{Rows}
 use Rattle.rows.specs.declared.Rows.the-variants as rows
 use Rattle.rows.specs.declared.Window.{Window}
+use Rattle.rows.specs.Window.{joinRows}
 use Rattle.rows.specs.Computed.{windowRows}
 use Rattle.rows.proofs.Windows.{clipped-none}
 use Rattle.rows.proofs.Theorems.{join-assoc, join-none}
@@ -49,6 +51,14 @@ no-run window (Run row first last) k = absurd (miss no-runs 3 tt k)
 no-run window (Stroke x y arms) k = refl
 no-run window (Mark x y dir) k = refl
 
+-- Rows joined with themselves are the same.
+pub join-same : (r : Rows) → joinRows r r ≡ r
+join-same rows.None = refl
+join-same (rows.From a b) =
+    let p : min a a ≡ a = omega arith in
+    let q : max b b ≡ b = omega arith in
+    rw (p, q)
+
 -- Of three together it does not matter which two are joined first; and no reach adds nothing.
 
 pub join-reach-assoc : (a b c : Reach) → joinReach (joinReach a b) c ≡ joinReach a (joinReach b c)
@@ -82,6 +92,16 @@ pub with-piece-rows :
     pieceRunsIn window p ≡ 0 →
     joinReach reach (pieceReach window p) ≡ withRows reach r
 with-piece-rows window reach p r h n = let m : reach .runs + 0 ≡ reach .runs = omega arith in rw (h, n, m)
+
+-- And one that is there only where a test holds.
+pub with-piece-if :
+    (window : Window) (reach : Reach) (test : Bool) (p : Piece) (r : Rows) →
+    pieceRows window p ≡ r →
+    pieceRunsIn window p ≡ 0 →
+    joinReach reach (pieceReach window (cond test p Nothing)) ≡ withRows reach (cond test r rows.None)
+unfolding pieceRows pieceRunsIn
+with-piece-if window reach true p r h n = with-piece-rows window reach p r h n
+with-piece-if window reach false p r h n = with-piece-rows window reach Nothing rows.None refl refl
 
 pub reach-append : (window : Window) (k l : List Piece) → reachOf window (k ++ l) ≡ joinReach (reachOf window k) (reachOf window l)
 unfolding reachOf

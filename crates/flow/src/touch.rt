@@ -88,7 +88,7 @@ pub fn with_piece(reach: Reach, window: Window, piece: Piece) -> Reach
 
 // What is reached with rows more.
 pub fn with_rows(reach: Reach, more: Rows) -> Reach
-    ensures { λ r. ⌜ r ≡ withRows reach more ⌝ }
+    ensures { λ r. ⌜ (r ≡ withRows reach more) × (r .runs ≡ reach .runs) ⌝ }
 {
     let rows = reach.rows;
     Reach {

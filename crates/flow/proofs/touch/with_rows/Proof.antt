@@ -1,10 +1,11 @@
 -- `with_rows` joins rows more.
 use borrow.Author.Needs.{needs}
+use mathlib.Core.Path.{refl}
 use Rattle.flow.proofs.touch.with_rows.Statement.{statement}
 use Rattle.flow.proofs.touch.with_rows.Tie as tie
 
 returns : tie.Need-returns
-returns c = cc
+returns c = (cc, refl)
 
 pub with-rows-spec : {M : Type 1} → statement M
 with-rows-spec =
