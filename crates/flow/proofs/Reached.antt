@@ -62,14 +62,17 @@ join-same (rows.From a b) =
 -- Of three together it does not matter which two are joined first; and no reach adds nothing.
 
 pub join-reach-assoc : (a b c : Reach) → joinReach (joinReach a b) c ≡ joinReach a (joinReach b c)
+unfolding joinReach
 join-reach-assoc a b c =
     let n : a .runs + b .runs + c .runs ≡ a .runs + (b .runs + c .runs) = omega arith in
     rw (join-assoc (a .rows) (b .rows) (c .rows), n)
 
 pub join-no-reach : (a : Reach) → joinReach a noReach ≡ a
+unfolding joinReach
 join-no-reach a = let n : a .runs + 0 ≡ a .runs = omega arith in rw (join-none (a .rows), n)
 
 pub no-reach-join : (a : Reach) → joinReach noReach a ≡ a
+unfolding joinReach
 no-reach-join a = let n : 0 + a .runs ≡ a .runs = omega arith in rw n
 
 -- The reach of pieces one after the other, onto what is reached already.
@@ -91,6 +94,7 @@ pub with-piece-rows :
     pieceRows window p ≡ r →
     pieceRunsIn window p ≡ 0 →
     joinReach reach (pieceReach window p) ≡ withRows reach r
+unfolding pieceReach joinReach withRows
 with-piece-rows window reach p r h n = let m : reach .runs + 0 ≡ reach .runs = omega arith in rw (h, n, m)
 
 -- And one that is there only where a test holds.

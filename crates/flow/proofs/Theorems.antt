@@ -22,7 +22,7 @@ use Rattle.flow.specs.declared.Line.{Line}
 use Rattle.flow.specs.declared.Piece.{Piece}
 use Rattle.flow.specs.declared.Piece.the-variants.{Nothing, Vertical, Horizontal, Run, Stroke, Mark}
 use Rattle.flow.specs.Pieces.{arrowOr, lineInk, pieceSpots, pieceRunOn, pieceTouches, runsIn}
-use Rattle.flow.specs.Reach.{hasInside, verticalRows, horizontalRows, pieceRows, reachOf}
+use Rattle.flow.specs.Reach.{hasInside, verticalRows, horizontalRows, pieceRows, pieceReach, joinReach, reachOf}
 
 -- a test that never holds adds nothing
 or-false : (b : Bool) → b || false ≡ b
@@ -81,13 +81,13 @@ piece-rows window e (Mark x y dir) = sym (by-spots window e (Mark x y dir) (λ y
 pub reach-rows :
     (window : Window) (e : Edge) (pieces : List Piece) →
     reachOf window pieces .rows ≡ touchedRows window (λ y. some pieces (λ p. pieceTouches e p y))
-unfolding reachOf some
+unfolding pieceReach joinReach reachOf some
 reach-rows window e [] = sym (touched-none window _ (λ y i j. refl))
 reach-rows window e (p ∷ rest) =
     rw (piece-rows window e p, reach-rows window e rest) (sym (touched-or window (pieceTouches e p) _))
 
 -- The runs of pieces are theirs, summed.
 pub reach-runs : (window : Window) (pieces : List Piece) → reachOf window pieces .runs ≡ runsIn window pieces
-unfolding reachOf runsIn
+unfolding pieceReach joinReach reachOf runsIn
 reach-runs window [] = refl
 reach-runs window (p ∷ rest) = rw (reach-runs window rest)

@@ -44,13 +44,13 @@ pieceRows window (Mark x y dir) = windowRows window y y
 abbrev pub noReach : Reach
 noReach = record { rows = rows.None; runs = 0 }
 
-abbrev pub pieceReach : Window → Piece → Reach
+unfoldable pub pieceReach : Window → Piece → Reach
 pieceReach window p = record { rows = pieceRows window p; runs = pieceRunsIn window p }
 
-abbrev pub joinReach : Reach → Reach → Reach
+unfoldable pub joinReach : Reach → Reach → Reach
 joinReach a b = record { rows = joinRows (a .rows) (b .rows); runs = a .runs + b .runs }
 
-abbrev pub withRows : Reach → Rows → Reach
+unfoldable pub withRows : Reach → Rows → Reach
 withRows reach more = record { rows = joinRows (reach .rows) more; runs = reach .runs }
 
 unfoldable pub reachOf : Window → List Piece → Reach
