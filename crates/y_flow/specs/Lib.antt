@@ -1,0 +1,3 @@
+-- What document 01 says of Y flow.
+pub mod YFlow
+pub mod Reach
