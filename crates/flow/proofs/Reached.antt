@@ -14,6 +14,7 @@ use Rattle.rows.specs.Window.{joinRows}
 use Rattle.rows.specs.Computed.{windowRows}
 use Rattle.rows.proofs.Windows.{clipped-none}
 use Rattle.rows.proofs.Theorems.{join-assoc, join-none}
+use Rattle.flow.specs.declared.Line.{Line}
 use Rattle.flow.specs.declared.Piece.{Piece}
 use Rattle.flow.specs.declared.Piece.the-variants.{Nothing, Vertical, Horizontal, Run, Stroke, Mark}
 use Rattle.flow.specs.declared.Reach.{Reach}
@@ -97,7 +98,19 @@ pub with-piece-rows :
 unfolding pieceReach joinReach withRows
 with-piece-rows window reach p r h n = let m : reach .runs + 0 ≡ reach .runs = omega arith in rw (h, n, m)
 
--- And one that is there only where a test holds.
+-- So does a line, whatever its arrows,
+
+pub with-vertical : (window : Window) (reach : Reach) (l : Line) → joinReach reach (pieceReach window (Vertical l)) ≡ withRows reach (verticalRows window (l .from) (l .to))
+unfolding pieceRows pieceRunsIn
+with-vertical window reach l = with-piece-rows window reach (Vertical l) _ refl refl
+
+pub with-horizontal :
+    (window : Window) (reach : Reach) (l : Line) →
+    joinReach reach (pieceReach window (Horizontal l)) ≡ withRows reach (horizontalRows window (l .lane) (l .from) (l .to))
+unfolding pieceRows pieceRunsIn
+with-horizontal window reach l = with-piece-rows window reach (Horizontal l) _ refl refl
+
+-- and a piece that is there only where a test holds.
 pub with-piece-if :
     (window : Window) (reach : Reach) (test : Bool) (p : Piece) (r : Rows) →
     pieceRows window p ≡ r →
@@ -115,3 +128,10 @@ reach-append window (p ∷ k) l = rw (reach-append window k l) (sym (join-reach-
 pub reach-one : (window : Window) (p : Piece) → reachOf window (p ∷ []) ≡ pieceReach window p
 unfolding reachOf
 reach-one window p = join-no-reach (pieceReach window p)
+
+-- Rows one after the other are joined.
+pub with-rows-three :
+    (reach : Reach) (a b c : Rows) →
+    withRows (withRows (withRows reach a) b) c ≡ withRows reach (joinRows (joinRows a b) c)
+unfolding withRows
+with-rows-three reach a b c = rw (join-assoc (reach .rows) a b, join-assoc (reach .rows) (joinRows a b) c)

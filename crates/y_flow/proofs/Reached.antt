@@ -2,7 +2,7 @@
 use native.Mathlib.Omega.{arith}
 use Prim.Native.Nat.{ℕ, _+_, _≤_, _<_, min, max}
 use mathlib.Core.Path.{_≡_, refl, sym, _∙_}
-use mathlib.Core.Bool.{Bool, true, false, not, cond, _&&_}
+use mathlib.Core.Bool.{Bool, true, false, not, _&&_}
 use mathlib.Core.List.{List, [], _∷_}
 use lib.Dec.{ltb, eqb}
 use borrow.Author.Tests.{eq-eqb, ne-eqb, le-ltb}
@@ -11,22 +11,19 @@ use Rattle.ground.proofs.Each.{by-bool}
 use Rattle.cell.specs.declared.Weight.{Weight}
 use Rattle.image.specs.declared.Edge.{Edge}
 use Rattle.rows.specs.declared.Rows.{Rows}
-use Rattle.rows.specs.declared.Rows.the-variants as rows
 use Rattle.rows.specs.declared.Window.{Window}
 use Rattle.rows.specs.Window.{joinRows}
 use Rattle.rows.specs.Computed.{windowRows}
-use Rattle.rows.proofs.Theorems.{join-assoc, join-none}
+use Rattle.rows.proofs.Theorems.{join-assoc}
 use Rattle.flow.specs.declared.Bend.{Bend}
 use Rattle.flow.specs.declared.Leg.{Leg}
-use Rattle.flow.specs.declared.Piece.{Piece}
-use Rattle.flow.specs.declared.Piece.the-variants.{Nothing}
 use Rattle.flow.specs.declared.Reach.{Reach}
 use Rattle.flow.specs.declared.Coordinate.{Coordinate}
 use Rattle.flow.specs.declared.Coordinate.the-variants as coordinate
 use Rattle.flow.specs.Flow.{lineOf, cornerBend, legBend, targetMarker}
 use Rattle.flow.specs.Pieces.{pieceRunsIn}
 use Rattle.flow.specs.Reach.{rowIf, hasInside, verticalRows, pieceRows, pieceReach, joinReach, withRows, reachOf}
-use Rattle.flow.proofs.Reached.{join-same, join-no-reach, reachOnto, reach-onto, with-piece-rows, with-piece-if}
+use Rattle.flow.proofs.Reached.{join-same, join-no-reach, reachOnto, reach-onto, with-vertical, with-piece-if}
 use Rattle.y_flow.specs.YFlow.{signY, directY, crossRunY, crossFirstY, crossLastY, cornerArrowY, trunkY, ownStartY, tailY}
 use Rattle.y_flow.specs.YFlow.{bentY, cornerY, channelLineY, sideY, straightLineY, straightY, cornerRow, crossingY, legY}
 use Rattle.y_flow.specs.Reach.{trunkRows, crossingReach, bentReach, channelReach}
@@ -88,65 +85,59 @@ module _ (window : Window) where
 
   -- A trunk, a stroke at the start, and a tail.
 
-  trunk-reached : (s : Bool) (v : Bend) (reach : Reach) → joinReach reach (pieceReach window (trunkY s v)) ≡ withRows reach (trunkRows window (v .«has_trunk») (v .y1) (v .bend))
+  trunk-reached :
+      (s : Bool) (v : Bend) (reach : Reach) →
+      joinReach reach (pieceReach window (trunkY s v)) ≡ withRows reach (trunkRows window (v .«has_trunk») (v .y1) (v .bend))
   unfolding trunkY pieceRows pieceRunsIn lineOf
   trunk-reached s v reach = with-piece-if window reach (v .«has_trunk») _ _ refl refl
 
-  start-reached : (w : Weight) (strokes : Bool) (x y : ℕ) (reach : Reach) → joinReach reach (pieceReach window (ownStartY w strokes x y)) ≡ withRows reach (rowIf window strokes y)
+  start-reached :
+      (w : Weight) (strokes : Bool) (x y : ℕ) (reach : Reach) →
+      joinReach reach (pieceReach window (ownStartY w strokes x y)) ≡ withRows reach (rowIf window strokes y)
   unfolding ownStartY pieceRows pieceRunsIn
   start-reached w strokes x y reach = with-piece-if window reach strokes _ _ refl refl
 
-  tail-reached : (s arrow : Bool) (x from to : ℕ) (reach : Reach) → joinReach reach (pieceReach window (tailY s arrow x from to)) ≡ withRows reach (verticalRows window from to)
-  unfolding tailY pieceRows pieceRunsIn lineOf
-  tail-reached s arrow x from to reach = with-piece-rows window reach (tailY s arrow x from to) _ refl refl
+  tail-reached :
+      (s arrow : Bool) (x from to : ℕ) (reach : Reach) →
+      joinReach reach (pieceReach window (tailY s arrow x from to)) ≡ withRows reach (verticalRows window from to)
+  unfolding tailY lineOf
+  tail-reached s arrow x from to reach = with-vertical window reach _
 
   -- A way that bends once reaches what its numbers say.
-  pub bent-reached :
+  bent-reached :
       (w : Weight) (s : Bool) (v : Bend) (reach : Reach) →
-      bentReach reach window (v .«has_trunk») (v .«strokes_start») (v .bend) (v .x1) (v .y1) (v .x2) (v .y2)
-      ≡ joinReach reach (reachOf window (bentY w s v))
+      joinReach reach (reachOf window (bentY w s v))
+      ≡ bentReach reach window (v .«has_trunk») (v .«strokes_start») (v .bend) (v .x1) (v .y1) (v .x2) (v .y2)
   unfolding bentReach bentY
-  bent-reached w s v reach = sym steps ∙ reach-onto window reach (bentY w s v)
-    where
-      steps :
-          reachOnto window reach (bentY w s v)
-          ≡ bentReach reach window (v .«has_trunk») (v .«strokes_start») (v .bend) (v .x1) (v .y1) (v .x2) (v .y2)
-      steps =
-          rw (trunk-reached s v reach, start-reached w (v .«strokes_start») (v .x1) (v .y1), crossing-reached (v .bend) (v .x1) (v .x2) w s (cornerArrowY s v), tail-reached s (v .«end_arrow») (v .x2) (v .bend) (v .y2))
+  bent-reached w s v reach =
+      sym (reach-onto window reach (bentY w s v))
+      ∙ rw (
+        trunk-reached s v reach,
+        start-reached w (v .«strokes_start») (v .x1) (v .y1),
+        crossing-reached (v .bend) (v .x1) (v .x2) w s (cornerArrowY s v),
+        tail-reached s (v .«end_arrow») (v .x2) (v .bend) (v .y2),
+      )
 
-  -- And so do an edge with a Corner, a Direct edge, a straight leg, and an edge with a SideChannel.
+  -- And so do an edge with a Corner, a Direct edge, an edge with a SideChannel, and a straight leg.
 
   pub corner-reached :
       (e : Edge) (bend : ℕ) (reach : Reach) →
       joinReach reach (reachOf window (cornerY e bend))
       ≡ bentReach reach window true false bend (e .«from_x») (e .«from_y») (e .«to_x») (e .«to_y»)
   unfolding cornerY cornerBend
-  corner-reached e bend reach = sym (bent-reached (e .weight) (signY e) (cornerBend e bend) reach)
+  corner-reached e bend reach = bent-reached (e .weight) (signY e) (cornerBend e bend) reach
 
   pub direct-reached :
       (e : Edge) (reach : Reach) →
       joinReach reach (pieceReach window (directY e)) ≡ withRows reach (verticalRows window (e .«from_y») (e .«to_y»))
-  unfolding directY pieceRows pieceRunsIn lineOf
-  direct-reached e reach = with-piece-rows window reach (directY e) _ refl refl
+  unfolding directY lineOf
+  direct-reached e reach = with-vertical window reach _
 
-  line-reached :
-      (e : Edge) (leg : Leg) (reach : Reach) →
-      joinReach reach (pieceReach window (straightLineY e leg)) ≡ withRows reach (verticalRows window (leg .y1) (leg .y2))
-  unfolding straightLineY pieceRows pieceRunsIn lineOf
-  line-reached e leg reach = with-piece-rows window reach (straightLineY e leg) _ refl refl
-
-  channel-reached : (x from to : ℕ) (reach : Reach) → joinReach reach (pieceReach window (channelLineY x from to)) ≡ withRows reach (verticalRows window from to)
-  unfolding channelLineY pieceRows pieceRunsIn lineOf
-  channel-reached x from to reach = with-piece-rows window reach (channelLineY x from to) _ refl refl
-
-  straight-reached :
-      (e : Edge) (leg : Leg) (reach : Reach) →
-      joinReach reach (reachOf window (straightY e leg))
-      ≡ withRows (withRows reach (rowIf window (not (leg .first)) (leg .y1))) (verticalRows window (leg .y1) (leg .y2))
-  unfolding straightY
-  straight-reached e leg reach =
-      sym (reach-onto window reach (straightY e leg))
-      ∙ rw (start-reached (e .weight) (not (leg .first)) (leg .x1) (leg .y1) reach, line-reached e leg)
+  channel-reached :
+      (channel start end : ℕ) (reach : Reach) →
+      joinReach reach (pieceReach window (channelLineY channel start end)) ≡ withRows reach (verticalRows window start end)
+  unfolding channelLineY lineOf
+  channel-reached channel start end reach = with-vertical window reach _
 
   pub side-reached :
       (e : Edge) (channel start end : ℕ) (reach : Reach) →
@@ -161,6 +152,21 @@ module _ (window : Window) where
         crossing-reached end channel (e .«to_x») (e .weight) (signY e) false,
         tail-reached (signY e) (targetMarker e) (e .«to_x») end (e .«to_y»),
       )
+
+  line-reached :
+      (e : Edge) (leg : Leg) (reach : Reach) →
+      joinReach reach (pieceReach window (straightLineY e leg)) ≡ withRows reach (verticalRows window (leg .y1) (leg .y2))
+  unfolding straightLineY lineOf
+  line-reached e leg reach = with-vertical window reach _
+
+  straight-reached :
+      (e : Edge) (leg : Leg) (reach : Reach) →
+      joinReach reach (reachOf window (straightY e leg))
+      ≡ withRows (withRows reach (rowIf window (not (leg .first)) (leg .y1))) (verticalRows window (leg .y1) (leg .y2))
+  unfolding straightY
+  straight-reached e leg reach =
+      sym (reach-onto window reach (straightY e leg))
+      ∙ rw (start-reached (e .weight) (not (leg .first)) (leg .x1) (leg .y1) reach, line-reached e leg)
 
   -- A leg of a MultiSegment: straight, with a corner below 0, and bent.
 
@@ -189,4 +195,4 @@ module _ (window : Window) where
         r ≡ joinReach reach (reachOf window (legY e offset leg))
     unfolding legY crossingY legBend
     bent-leg r corner bend h a q b =
-        rw (ne-eqb (leg .x1) (leg .x2) h, ← q, a) (b ∙ bent-reached (e .weight) (signY e) (legBend e offset leg bend) reach)
+        rw (ne-eqb (leg .x1) (leg .x2) h, ← q, a) (b ∙ sym (bent-reached (e .weight) (signY e) (legBend e offset leg bend) reach))

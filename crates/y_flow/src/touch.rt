@@ -58,7 +58,7 @@ fn bent_reach(
 
 // What is reached with a Direct edge or a Spline.
 pub fn direct_reach(reach: Reach, window: Window, e: Edge) -> Reach
-    ensures { λ r. ⌜ r ≡ joinReach reach (pieceReach window (directY e)) ⌝ }
+    ensures { λ r. ⌜ (r ≡ joinReach reach (pieceReach window (directY e))) × (r .runs ≡ reach .runs) ⌝ }
 {
     let from = ground::number(e.from_y);
     let to = ground::number(e.to_y);

@@ -5,7 +5,7 @@ use Rattle.y_flow.proofs.touch.direct_reach.Statement.{statement}
 use Rattle.y_flow.proofs.touch.direct_reach.Tie as tie
 
 returns : tie.Need-returns
-returns c = rw direct-reached (cc)
+returns c = (rw direct-reached (cc), search needs)
 
 pub direct-reach-spec : {M : Type 1} → statement M
 direct-reach-spec =

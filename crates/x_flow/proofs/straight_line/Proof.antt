@@ -1,0 +1,25 @@
+-- `straight_line` gives the line of a straight leg, whose start arrow beats its end arrow.
+use borrow.Author.Needs.{needs}
+use Rattle.x_flow.specs.XFlow.{straightLineX}
+use Rattle.x_flow.proofs.straight_line.Statement.{statement}
+use Rattle.x_flow.proofs.straight_line.Tie as tie
+
+returns : tie.Need-returns
+unfolding straightLineX
+returns c = cc
+
+pub straight-line-spec : {M : Type 1} → statement M
+straight-line-spec =
+    tie.close
+    (tie.spec
+    (λ c κs. search needs)
+    (λ c κs. search needs)
+    (λ c κs. search needs)
+    (λ c κs. search needs)
+    (λ c κs. search needs)
+    (λ c κs. search needs)
+    (λ c κs. search needs)
+    (λ c κs. search needs)
+    (λ c κs. search needs)
+    (λ c κs. search needs)
+    returns)

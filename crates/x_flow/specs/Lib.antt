@@ -1,0 +1,3 @@
+-- What document 01 says of X flow.
+pub mod XFlow
+pub mod Reach
