@@ -7,22 +7,23 @@ use mathlib.Core.Path.{_≡_, sym}
 use lib.ListN.{length, getD, drop, drop-of-length-le}
 use lib.Seq.{drop-cons}
 use borrow.Author.Tests.{lt-ltb, le-ltb}
+use Rattle.ground.specs.Each.{some}
 use Rattle.glyph.specs.Width.{widthOf}
-use Rattle.frame.specs.Subgraphs.{anyInk}
+use Rattle.frame.specs.Computed.{anyInk}
 
-module _ (t label : List ℕ) (k : ℕ) (r : Bool) (i : anyInk t (drop k label) ≡ r) where
+module _ (ranges glyphs : List ℕ) (k : ℕ) (r : Bool) (i : anyInk ranges (drop k glyphs) ≡ r) where
   -- no glyph is left
-  pub none-left : length label ≤ k → false ≡ r
-  unfolding anyInk
-  none-left h = rw (drop-of-length-le label h) at i
+  pub none-left : length glyphs ≤ k → false ≡ r
+  unfolding anyInk some
+  none-left h = rw (drop-of-length-le glyphs h) at i
 
-  module _ (width : ℕ) (h : k < length label) (e : width ≡ widthOf t (getD label k 0)) where
+  module _ (width : ℕ) (h : k < length glyphs) (e : width ≡ widthOf ranges (getD glyphs k 0)) where
     -- the next glyph makes ink, and it does not
 
     pub ink : 0 < width → true ≡ r
-    unfolding anyInk
-    ink p = simp (drop-cons label k 0 h, sym e, lt-ltb _ _ p) at i
+    unfolding anyInk some
+    ink p = simp (drop-cons glyphs k 0 h, sym e, lt-ltb _ _ p) at i
 
-    pub no-ink : width ≤ 0 → anyInk t (drop (k + 1) label) ≡ r
-    unfolding anyInk
-    no-ink p = rw add-one (simp (drop-cons label k 0 h, sym e, le-ltb _ _ p) at i)
+    pub no-ink : width ≤ 0 → anyInk ranges (drop (k + 1) glyphs) ≡ r
+    unfolding anyInk some
+    no-ink p = rw add-one (simp (drop-cons glyphs k 0 h, sym e, le-ltb _ _ p) at i)

@@ -1,3 +1,2 @@
--- What is shown of nodes and subgraphs: the laws that the functions' proofs cite, and the theorems.
+-- What is shown of subgraphs and nodes: the laws that the functions' proofs cite.
 pub mod Laws
-pub mod Theorems

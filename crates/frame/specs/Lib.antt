@@ -1,3 +1,6 @@
--- What document 01 says of nodes and subgraphs: how they look, and which rows of the sheet they touch.
-pub mod Nodes
+-- What document 01 says of subgraphs, nodes and placed labels: what each makes, as spots.
+pub mod Frames
 pub mod Subgraphs
+pub mod Nodes
+pub mod PlacedLabels
+pub mod Computed

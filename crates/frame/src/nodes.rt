@@ -1,22 +1,24 @@
-// How a node looks, and the rows of the sheet that it touches.
+// How a node looks, and the rows of a window that it touches.
 ghost use mathlib.Core.Path.{_≡_};
-ghost use Rattle.frame.specs.Nodes.{boxOrSimple, lookOf, boxRows, loopRows, nodeRows};
+ghost use Rattle.frame.specs.Nodes.{boxOrSimple, lookOf};
+ghost use Rattle.frame.specs.Computed.{loopRows, lookRows, nodeRows};
 use crate::Look;
+use crate::frames;
 use image::Node;
 use image::NodeKind;
 use image::SelfLoop;
 use rows::Rows;
+use rows::Window;
 
 // "Boxed with height ≥ 3 and width ≥ 2"; otherwise it looks simple.
 fn box_or_simple(width: u32, height: u32) -> Look
     ensures { λ r. ⌜ r ≡ boxOrSimple width height ⌝ }
 {
-    if 3 <= height {
-        if 2 <= width {
-            return Look::Box;
-        }
+    if frames::at_least(height, 3, width, 2) {
+        Look::Box
+    } else {
+        Look::Simple
     }
-    Look::Simple
 }
 
 pub fn look_of(show_dummies: bool, n: Node) -> Look
@@ -35,41 +37,32 @@ pub fn look_of(show_dummies: bool, n: Node) -> Look
     }
 }
 
-fn loop_rows(height: usize, at: SelfLoop) -> Rows
-    ensures { λ r. ⌜ r ≡ loopRows height at ⌝ }
+fn loop_rows(window: Window, at: SelfLoop) -> Rows
+    ensures { λ r. ⌜ r ≡ loopRows window at ⌝ }
 {
     let SelfLoop::At { x, y } = at else {
         return Rows::None;
     };
-    let row = ground::number(y);
-    rows::sheet_rows(height, row, row)
+    frames::row_at(window, y)
 }
 
-// The rows of a box or a border, so many from y on.
-pub fn box_rows(height: usize, y: u32, tall: u32) -> Rows
-    ensures { λ r. ⌜ r ≡ boxRows height y tall ⌝ }
+// The rows of a window that a node touches which looks so.
+fn look_rows(window: Window, n: Node, look: Look) -> Rows
+    ensures { λ r. ⌜ r ≡ lookRows window n look ⌝ }
 {
-    let first = ground::number(y);
-    let end = first + ground::number(tall);
-    if 0 < end {
-        rows::sheet_rows(height, first, end - 1)
-    } else {
-        rows::sheet_rows(height, first, 0)
-    }
-}
-
-// The rows of the sheet that a node touches, from the first to the last.
-pub fn node_rows(height: usize, show_dummies: bool, n: Node) -> Rows
-    ensures { λ r. ⌜ r ≡ nodeRows height «show_dummies» n ⌝ }
-{
-    let row = ground::number(n.y);
     let at = n.self_loop;
-    let look = look_of(show_dummies, n);
     match look {
         Look::Hidden => Rows::None,
-        Look::Dummy => rows::sheet_rows(height, row, row),
-        Look::Box => box_rows(height, n.y, n.height).join(loop_rows(height, at)),
-        Look::Simple => rows::sheet_rows(height, row, row).join(loop_rows(height, at)),
-        Look::Blank => loop_rows(height, at),
+        Look::Dummy => frames::row_at(window, n.y),
+        Look::Box => frames::box_rows(window, n.y, n.height).join(loop_rows(window, at)),
+        Look::Simple => frames::row_at(window, n.y).join(loop_rows(window, at)),
+        Look::Blank => loop_rows(window, at),
     }
+}
+
+// The rows of a window that a node touches, from the first to the last.
+pub fn node_rows(window: Window, show_dummies: bool, n: Node) -> Rows
+    ensures { λ r. ⌜ r ≡ nodeRows window «show_dummies» n ⌝ }
+{
+    look_rows(window, n, look_of(show_dummies, n))
 }

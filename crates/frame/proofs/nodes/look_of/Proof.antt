@@ -4,21 +4,6 @@ use Rattle.frame.specs.Nodes.{lookOf}
 use Rattle.frame.proofs.nodes.look_of.Statement.{statement}
 use Rattle.frame.proofs.nodes.look_of.Tie as tie
 
-enum-told : tie.Need-enum-told
-enum-told c = search needs
-
-enum-told-2 : tie.Need-enum-told-2
-enum-told-2 c = search needs
-
-box-or-simple-requires : tie.Need-box-or-simple-requires
-box-or-simple-requires c κs = search needs
-
-enum-told-3 : tie.Need-enum-told-3
-enum-told-3 c = search needs
-
-enum-told-4 : tie.Need-enum-told-4
-enum-told-4 c = search needs
-
 returns : tie.Need-returns
 unfolding lookOf
 returns c = rw (c .enum-told .given .1)
@@ -43,11 +28,11 @@ pub look-of-spec : {M : Type 1} → statement M
 look-of-spec =
     tie.close
     (tie.spec
-    enum-told
-    enum-told-2
-    box-or-simple-requires
-    enum-told-3
-    enum-told-4
+    (λ c. search needs)
+    (λ c. search needs)
+    (λ c κs. search needs)
+    (λ c. search needs)
+    (λ c. search needs)
     returns
     returns-2
     returns-3

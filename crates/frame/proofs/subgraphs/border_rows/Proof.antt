@@ -3,12 +3,6 @@ use borrow.Author.Needs.{needs}
 use Rattle.frame.proofs.subgraphs.border_rows.Statement.{statement}
 use Rattle.frame.proofs.subgraphs.border_rows.Tie as tie
 
-has-border-requires : tie.Need-has-border-requires
-has-border-requires c κs = search needs
-
-box-rows-requires : tie.Need-box-rows-requires
-box-rows-requires c κs = search needs
-
 returns : tie.Need-returns
 returns c = rw (← c .before .before .has-border .ensures, c .before .if1 .taken) (c .box-rows .ensures)
 
@@ -16,4 +10,4 @@ returns-2 : tie.Need-returns-2
 returns-2 c = rw (← c .before .has-border .ensures, c .if1 .left)
 
 pub border-rows-spec : {M : Type 1} → statement M
-border-rows-spec = tie.close (tie.spec has-border-requires box-rows-requires returns returns-2)
+border-rows-spec = tie.close (tie.spec (λ c κs. search needs) (λ c κs. search needs) returns returns-2)

@@ -3,21 +3,12 @@ use borrow.Author.Needs.{needs}
 use Rattle.frame.proofs.subgraphs.label_rows.Statement.{statement}
 use Rattle.frame.proofs.subgraphs.label_rows.Tie as tie
 
-label-inks-requires : tie.Need-label-inks-requires
-label-inks-requires c κs = search needs
-
-label-row-requires : tie.Need-label-row-requires
-label-row-requires c κs = search needs
-
-sheet-rows-requires : tie.Need-sheet-rows-requires
-sheet-rows-requires c κs = search needs
-
 returns : tie.Need-returns
 returns c =
     rw (
       ← c .before .before .before .label-inks .ensures,
       c .before .before .if1 .taken,
-      c .sheet-rows .ensures,
+      c .clip .ensures,
       c .before .label-row .ensures,
     )
 
@@ -27,4 +18,4 @@ returns-2 c = rw (← c .before .label-inks .ensures, c .if1 .left)
 pub label-rows-spec : {M : Type 1} → statement M
 label-rows-spec =
     tie.close
-    (tie.spec label-inks-requires label-row-requires sheet-rows-requires returns returns-2)
+    (tie.spec (λ c κs. search needs) (λ c κs. search needs) (λ c κs. search needs) returns returns-2)

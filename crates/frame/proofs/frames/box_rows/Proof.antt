@@ -1,0 +1,18 @@
+-- `box_rows` gives the rows of a box that the window has.
+use borrow.Author.Needs.{needs}
+use Rattle.frame.proofs.frames.box_rows.Statement.{statement}
+use Rattle.frame.proofs.frames.box_rows.Tie as tie
+
+returns : tie.Need-returns
+returns c = cc
+
+pub box-rows-spec : {M : Type 1} → statement M
+box-rows-spec =
+    tie.close
+    (tie.spec
+    (λ c κs. search needs)
+    (λ c κs. search needs)
+    (λ c. search needs)
+    (λ c κs. search needs)
+    (λ c κs. search needs)
+    returns)
