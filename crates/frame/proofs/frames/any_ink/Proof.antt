@@ -15,20 +15,13 @@ abbrev μ-loop : tie.MeasureT-loop
 μ-loop ranges glyphs k₀ k = length glyphs - k
 
 returns : tie.Need-returns Inv-loop μ-loop
-returns c =
-    let l = c .before .before .before .before .loop in
-    let glyphs = c .before .before .before .before .before .before .before .args .glyphs .now in
-    ink _ glyphs (l .k) _ (l .inv .1) _ (search needs) (c .before .char-width .ensures .0) (search needs)
+returns c = search (ink, needs)
 
 loop-again : tie.Need-loop-again Inv-loop μ-loop
-loop-again c =
-    let l = c .before .before .before .before .loop in
-    let glyphs = c .before .before .before .before .before .before .before .args .glyphs .now in
-    (search needs, no-ink _ glyphs (l .k) _ (l .inv .1) _ (search needs) (c .before .char-width .ensures .0) (search needs))
+loop-again c = (search needs, search (no-ink, needs))
 
 returns-2 : tie.Need-returns-2 Inv-loop μ-loop
-returns-2 c =
-    none-left _ (c .before .before .before .before .args .glyphs .now) (c .before .loop .k) _ (c .before .loop .inv .1) (search needs)
+returns-2 c = search (none-left, needs)
 
 pub any-ink-spec : {M : Type 1} → statement M
 any-ink-spec =
