@@ -8,7 +8,7 @@ use lib.Dec.{leb, ltb, eqb}
 use borrow.Author.Tests.{le-leb, lt-leb, lt-ltb, le-ltb, eq-eqb, ne-eqb}
 use Rattle.ground.specs.Each.{some}
 use Rattle.ground.proofs.Order.{by-three}
-use Rattle.ground.proofs.Each.{by-bool, or-neither}
+use Rattle.ground.proofs.Each.{by-bool, and-both, or-neither}
 use Rattle.cell.specs.declared.Weight.{Weight}
 use Rattle.cell.specs.OneCell.{horizontal, vertical}
 use Rattle.glyph.specs.Width.{widthOf}
@@ -18,7 +18,7 @@ use Rattle.rows.specs.declared.Window.{Window}
 use Rattle.rows.specs.Spots.{Spot, at, stroke, glyph, inks, touches}
 use Rattle.rows.specs.Window.{touchedRows}
 use Rattle.rows.specs.Computed.{windowRows}
-use Rattle.rows.proofs.Windows.{touched-same, touched-none, window-rows, window-row}
+use Rattle.rows.proofs.Windows.{clash, touched-same, touched-none, window-rows, window-row}
 use Rattle.rows.proofs.Spots.{touches-append, touches-along, touches-down}
 use Rattle.frame.specs.Frames.{corners, across, down, boxOf, text}
 use Rattle.frame.specs.Nodes.{closing, textUntil, simpleSpots}
@@ -122,6 +122,19 @@ module _ (ranges : List ℕ) where
       touchedRows w (touches ranges (text ranges x row glyphs)) ≡ cond (anyInk ranges glyphs) (windowRows w row row) None
   rows-text w x row glyphs = touched-same w _ _ (λ y i j. text-touches x row glyphs y) ∙ row-where w (anyInk ranges glyphs) row
 
+  -- A box with glyphs on one of its rows touches no further row.
+  pub rows-framed :
+      (w : Window) (weight : Weight) (left right top bottom x row : ℕ) (glyphs : List ℕ) → top ≤ row → row ≤ bottom →
+      touchedRows w (touches ranges (boxOf weight left right top bottom ++ text ranges x row glyphs)) ≡ windowRows w top bottom
+  rows-framed w weight left right top bottom x row glyphs p q =
+      let h : top ≤ bottom = omega arith in
+      rows-covered w (boxOf weight left right top bottom) (text ranges x row glyphs)
+      (λ y off. text-off x row glyphs y
+      (λ e. clash
+      (box-touches weight left right top bottom h y ∙ and-both (le-leb top y (omega arith)) (le-leb y bottom (omega arith)))
+      off))
+      ∙ rows-box weight left right top bottom h w
+
   -- The simple look touches its row and no other.
 
   until-off : (close x row : ℕ) (glyphs : List ℕ) (y : ℕ) → eqb row y ≡ false → touches ranges (textUntil ranges close x row glyphs) y ≡ false
@@ -132,6 +145,12 @@ module _ (ranges : List ℕ) where
       (λ t. rw (t, e) (until-off close (x + widthOf ranges ch) row rest y e))
       (λ t. rw t)
 
+  close-off :
+      (wide : Bool) (x row : ℕ) (ch y : ℕ) → eqb row y ≡ false → touches ranges (cond wide (at x row (glyph ch) ∷ []) []) y ≡ false
+  unfolding touches some
+  close-off true x row ch y t = rw t
+  close-off false x row ch y t = refl
+
   pub simple-touches :
       (n : Node) (glyphs : List ℕ) → 0 < widthOf ranges 0x5B → (y : ℕ) → touches ranges (simpleSpots ranges n glyphs) y ≡ eqb (n .y) y
   unfolding touches some inks
@@ -140,12 +159,7 @@ module _ (ranges : List ℕ) where
       (λ t. rw (t, lt-ltb _ _ h))
       (λ t. rw t
       (touches-append ranges (textUntil ranges (closing n) (n .x + 1) (n .y) glyphs) _ y
-      ∙ or-neither (until-off (closing n) (n .x + 1) (n .y) glyphs y t) (close-off (leb 2 (n .width)) t)))
-    where
-      close-off :
-          (wide : Bool) → eqb (n .y) y ≡ false → touches ranges (cond wide (at (closing n) (n .y) (glyph 0x5D) ∷ []) []) y ≡ false
-      close-off true t = rw t
-      close-off false t = refl
+      ∙ or-neither (until-off _ _ _ glyphs y t) (close-off (leb 2 (n .width)) _ _ _ y t)))
 
   pub rows-simple :
       (w : Window) (n : Node) (glyphs : List ℕ) → 0 < widthOf ranges 0x5B →

@@ -5,10 +5,9 @@ use mathlib.Core.Bool.{Bool, true, false, _&&_}
 use mathlib.Core.List.{List}
 use mathlib.Core.Path.{_≡_, refl, sym, _∙_}
 use lib.Dec.{leb, ltb}
-use borrow.Author.Tests.{le-leb, leb-true}
-use Rattle.ground.proofs.Each.{by-bool, and-left, and-right, and-both}
+use borrow.Author.Tests.{leb-true}
+use Rattle.ground.proofs.Each.{by-bool, and-left, and-right}
 use Rattle.cell.specs.OneCell.{weightNumber}
-use Rattle.cell.specs.declared.Weight.the-variants.{Light}
 use Rattle.glyph.specs.Width.{widthOf}
 use Rattle.image.specs.declared.NodeKind.{NodeKind}
 use Rattle.image.specs.declared.NodeKind.the-variants as kind
@@ -16,19 +15,16 @@ use Rattle.image.specs.declared.SelfLoop.{SelfLoop}
 use Rattle.image.specs.declared.SelfLoop.the-variants as loop
 use Rattle.image.specs.declared.Node.{Node}
 use Rattle.image.specs.declared.Subgraph.{Subgraph}
-use Rattle.rows.specs.declared.Rows.the-variants.{None}
 use Rattle.rows.specs.declared.Window.{Window}
 use Rattle.rows.specs.Spots.{inks, touches}
 use Rattle.rows.specs.Window.{touchedRows}
 use Rattle.rows.specs.Computed.{windowRows}
-use Rattle.rows.proofs.Windows.{clash}
 use Rattle.rows.proofs.Spots.{rows-nil, rows-one, rows-append}
 use Rattle.frame.specs.declared.Look.the-variants.{Box, Simple}
-use Rattle.frame.specs.Frames.{box, fittingPart, fittingText}
 use Rattle.frame.specs.Nodes.{lookFor, lookOf, boxedSpots, simpleSpots, loopSpots, lookSpots, nodeSpots}
 use Rattle.frame.specs.Subgraphs.{hasBorder, hasLabel, borderSpots, subgraphLabelSpots, subgraphSpots}
 use Rattle.frame.specs.Computed.{loopRows, lookRows, nodeRows, labelInks, borderRows, labelRows, subgraphRows}
-use Rattle.frame.proofs.Spots.{box-touches, rows-box, text-off, rows-text, rows-simple, rows-covered}
+use Rattle.frame.proofs.Spots.{rows-box, rows-text, rows-framed, rows-simple}
 
 -- a subgraph that has a border is tall enough for one
 border-tall : (s : Subgraph) → hasBorder s ≡ true → 2 ≤ s .height
@@ -47,14 +43,7 @@ module _ (w : Window) (ranges : List ℕ) where
   boxed-rows :
       (n : Node) (glyphs : List ℕ) → 3 ≤ n .height →
       touchedRows w (touches ranges (boxedSpots ranges n glyphs)) ≡ windowRows w (n .y) (n .y + n .height - 1)
-  boxed-rows n glyphs h =
-      rows-covered ranges w (box Light (n .x) (n .y) (n .width) (n .height)) (fittingText ranges (n .x) (n .y + 1) (n .width) glyphs)
-      (λ y off. text-off ranges (n .x + 2) (n .y + 1) (fittingPart ranges (n .width) glyphs) y
-      (λ e. clash
-      (box-touches ranges Light (n .x) (n .x + n .width - 1) (n .y) (n .y + n .height - 1) (omega arith) y
-      ∙ and-both (le-leb (n .y) y (omega arith)) (le-leb y (n .y + n .height - 1) (omega arith)))
-      off))
-      ∙ rows-box ranges Light (n .x) (n .x + n .width - 1) (n .y) (n .y + n .height - 1) (omega arith) w
+  boxed-rows n glyphs h = rows-framed ranges w _ _ _ _ _ _ _ _ (omega arith) (omega arith)
 
   -- each look
   module _ (n : Node) (glyphs : List ℕ) (bracket : 0 < widthOf ranges 0x5B) where
@@ -92,7 +81,7 @@ module _ (w : Window) (ranges : List ℕ) where
   unfolding borderSpots
   border-rows s =
       by-bool (hasBorder s)
-      (λ t. rw t (rows-box ranges (s .border) (s .x) (s .x + s .width - 1) (s .y) (s .y + s .height - 1) (omega (arith, border-tall s t)) w))
+      (λ t. rw t (rows-box ranges _ _ _ _ _ (omega (arith, border-tall s t)) w))
       (λ t. rw t (rows-nil w ranges))
 
   label-rows : (s : Subgraph) (glyphs : List ℕ) → touchedRows w (touches ranges (subgraphLabelSpots ranges s glyphs)) ≡ labelRows w ranges s glyphs

@@ -21,6 +21,7 @@ fn box_or_simple(width: u32, height: u32) -> Look
     }
 }
 
+// How a node looks, with dummies shown or not.
 pub fn look_of(show_dummies: bool, n: Node) -> Look
     ensures { λ r. ⌜ r ≡ lookOf «show_dummies» n ⌝ }
 {
@@ -37,6 +38,7 @@ pub fn look_of(show_dummies: bool, n: Node) -> Look
     }
 }
 
+// The row of a self-loop.
 fn loop_rows(window: Window, at: SelfLoop) -> Rows
     ensures { λ r. ⌜ r ≡ loopRows window at ⌝ }
 {

@@ -56,6 +56,7 @@ fn label_inks(ranges: &[u32], s: Subgraph, label: &[u32]) -> bool
     }
 }
 
+// The rows of the border, where there is one.
 fn border_rows(window: Window, s: Subgraph) -> Rows
     ensures { λ r. ⌜ r ≡ borderRows window s ⌝ }
 {
@@ -66,6 +67,7 @@ fn border_rows(window: Window, s: Subgraph) -> Rows
     }
 }
 
+// The row of the label, where it makes ink.
 fn label_rows(window: Window, ranges: &[u32], s: Subgraph, label: &[u32]) -> Rows
     ensures { λ r. ⌜ r ≡ labelRows window (now (ranges .entry)) s (now (label .entry)) ⌝ }
 {

@@ -4,7 +4,7 @@ use Rattle.frame.proofs.frames.box_rows.Statement.{statement}
 use Rattle.frame.proofs.frames.box_rows.Tie as tie
 
 returns : tie.Need-returns
-returns c = cc
+returns c = rw (c .clip .ensures, c .before .minus .ensures, c .before .before .number2 .ensures .0, c .before .before .before .number .ensures .0)
 
 pub box-rows-spec : {M : Type 1} → statement M
 box-rows-spec =
