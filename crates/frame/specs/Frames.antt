@@ -6,7 +6,7 @@ use Rattle.ground.specs.Each.{between}
 use Rattle.cell.specs.declared.Weight.{Weight}
 use Rattle.cell.specs.OneCell.{horizontal, vertical}
 use Rattle.glyph.specs.Width.{widthOf}
-use Rattle.glyph.specs.Fitting.{fitting}
+use Rattle.glyph.specs.Fitting.{fitPrefix}
 use Rattle.rows.specs.Spots.{Spot, at, stroke, glyph}
 use Rattle.flow.specs.Flow.{corner}
 
@@ -51,7 +51,7 @@ abbrev pub labelRoom : ℕ → ℕ
 labelRoom width = max width 4 - 4
 
 abbrev pub fittingPart : List ℕ → ℕ → List ℕ → List ℕ
-fittingPart ranges width glyphs = fitting ranges (labelRoom width) glyphs
+fittingPart ranges width glyphs = fitPrefix glyphs ranges (labelRoom width)
 
 -- in a box at x, so wide: from column x + 2 on
 abbrev pub fittingText : List ℕ → ℕ → ℕ → ℕ → List ℕ → List Spot
