@@ -10,7 +10,6 @@ use borrow.Author.Tests.{le-leb, lt-leb}
 use types.Run.{OneOf, miss}
 use denote.Enum.Declared.{tagOf}
 use Rattle.layout.specs.declared.Table.{Table}
-use Rattle.layout.specs.declared.Tables.{Tables}
 use Rattle.layout.specs.Layout.{nodeX, nodeY, nodeWidth, nodeHeight, nodeLabelStart, nodeLabelCount, edgeColour, edgeLabelColour}
 use Rattle.layout.specs.Layout.{subgraphX, subgraphY, subgraphWidth, subgraphHeight, subgraphLabelStart, subgraphLabelCount, subgraphColour}
 use Rattle.layout.specs.Tables.{tableEnd, recordAt, field}
@@ -88,26 +87,26 @@ no-points Spline k = refl
 -- a node, an edge and a subgraph of the parts by which they are read
 
 pub node-of :
-    (image : List ℕ) (ts : Tables) (k x y width height : ℕ) (label : Span) (kind : NodeKind) (loop : SelfLoop) →
-    x ≡ field image (ts .nodes) k nodeX →
-    y ≡ field image (ts .nodes) k nodeY →
-    width ≡ field image (ts .nodes) k nodeWidth →
-    height ≡ field image (ts .nodes) k nodeHeight →
-    label ≡ spanAt image (ts .nodes) k nodeLabelStart nodeLabelCount →
-    kind ≡ nodeKindAt image (ts .nodes) k →
-    loop ≡ selfLoopAt image (ts .nodes) k →
-    record { x = x; y = y; width = width; height = height; label = label; kind = kind; «self_loop» = loop } ≡ nodeAt image ts k
+    (image : List ℕ) (nodes : Table) (k x y width height : ℕ) (label : Span) (kind : NodeKind) (loop : SelfLoop) →
+    x ≡ field image nodes k nodeX →
+    y ≡ field image nodes k nodeY →
+    width ≡ field image nodes k nodeWidth →
+    height ≡ field image nodes k nodeHeight →
+    label ≡ spanAt image nodes k nodeLabelStart nodeLabelCount →
+    kind ≡ nodeKindAt image nodes k →
+    loop ≡ selfLoopAt image nodes k →
+    record { x = x; y = y; width = width; height = height; label = label; kind = kind; «self_loop» = loop } ≡ nodeAt image nodes k
 unfolding nodeAt
-node-of image ts k x y width height label kind loop e1 e2 e3 e4 e5 e6 e7 = rw (e1, e2, e3, e4, e5, e6, e7)
+node-of image nodes k x y width height label kind loop e1 e2 e3 e4 e5 e6 e7 = rw (e1, e2, e3, e4, e5, e6, e7)
 
 pub edge-of :
-    (image : List ℕ) (ts : Tables) (k : ℕ) (ends : Ends) (path : Path) (style : Style) (label : EdgeLabel) (colour label-colour : ℕ) →
-    ends ≡ endsAt image (ts .edges) k →
-    style ≡ styleAt image (ts .edges) k →
-    path ≡ pathAt image (ts .edges) k →
-    label ≡ edgeLabelAt image (ts .edges) k →
-    colour ≡ field image (ts .edges) k edgeColour →
-    label-colour ≡ field image (ts .edges) k edgeLabelColour →
+    (image : List ℕ) (edges : Table) (k : ℕ) (ends : Ends) (path : Path) (style : Style) (label : EdgeLabel) (colour label-colour : ℕ) →
+    ends ≡ endsAt image edges k →
+    style ≡ styleAt image edges k →
+    path ≡ pathAt image edges k →
+    label ≡ edgeLabelAt image edges k →
+    colour ≡ field image edges k edgeColour →
+    label-colour ≡ field image edges k edgeLabelColour →
     _≡_ {A = Edge} (record {
       «from_x» = ends .«from_x»;
       «from_y» = ends .«from_y»;
@@ -122,20 +121,20 @@ pub edge-of :
       label = label;
       colour = colour;
       «label_colour» = label-colour;
-    }) (edgeAt image ts k)
+    }) (edgeAt image edges k)
 unfolding edgeAt
-edge-of image ts k ends path style label colour label-colour e1 e2 e3 e4 e5 e6 = rw (e1, e2, e3, e4, e5, e6)
+edge-of image edges k ends path style label colour label-colour e1 e2 e3 e4 e5 e6 = rw (e1, e2, e3, e4, e5, e6)
 
 pub subgraph-of :
-    (image : List ℕ) (ts : Tables) (k x y width height : ℕ) (label : Span) (border : Weight) (position : LabelPosition) (colour : ℕ) →
-    x ≡ field image (ts .subgraphs) k subgraphX →
-    y ≡ field image (ts .subgraphs) k subgraphY →
-    width ≡ field image (ts .subgraphs) k subgraphWidth →
-    height ≡ field image (ts .subgraphs) k subgraphHeight →
-    label ≡ spanAt image (ts .subgraphs) k subgraphLabelStart subgraphLabelCount →
-    border ≡ borderAt image (ts .subgraphs) k →
-    position ≡ positionAt image (ts .subgraphs) k →
-    colour ≡ field image (ts .subgraphs) k subgraphColour →
-    record { x = x; y = y; width = width; height = height; label = label; border = border; position = position; colour = colour } ≡ subgraphAt image ts k
+    (image : List ℕ) (subgraphs : Table) (k x y width height : ℕ) (label : Span) (border : Weight) (position : LabelPosition) (colour : ℕ) →
+    x ≡ field image subgraphs k subgraphX →
+    y ≡ field image subgraphs k subgraphY →
+    width ≡ field image subgraphs k subgraphWidth →
+    height ≡ field image subgraphs k subgraphHeight →
+    label ≡ spanAt image subgraphs k subgraphLabelStart subgraphLabelCount →
+    border ≡ borderAt image subgraphs k →
+    position ≡ positionAt image subgraphs k →
+    colour ≡ field image subgraphs k subgraphColour →
+    record { x = x; y = y; width = width; height = height; label = label; border = border; position = position; colour = colour } ≡ subgraphAt image subgraphs k
 unfolding subgraphAt
-subgraph-of image ts k x y width height label border position colour e1 e2 e3 e4 e5 e6 e7 e8 = rw (e1, e2, e3, e4, e5, e6, e7, e8)
+subgraph-of image subgraphs k x y width height label border position colour e1 e2 e3 e4 e5 e6 e7 e8 = rw (e1, e2, e3, e4, e5, e6, e7, e8)

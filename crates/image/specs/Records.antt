@@ -69,17 +69,17 @@ nodeKindOf n = cond (eqb n 0) Simple (cond (eqb n 1) Boxed (cond (eqb n 2) Blank
 unfoldable pub selfLoopOf : Bool → ℕ → ℕ → SelfLoop
 selfLoopOf present x y = cond present (loop.At x y) loop.None
 
-unfoldable pub nodeAt : List ℕ → Tables → ℕ → Node
-nodeAt image ts k = record {
-  x = field image (ts .nodes) k nodeX;
-  y = field image (ts .nodes) k nodeY;
-  width = field image (ts .nodes) k nodeWidth;
-  height = field image (ts .nodes) k nodeHeight;
-  label = spanAt image (ts .nodes) k nodeLabelStart nodeLabelCount;
-  kind = nodeKindOf (bits (field image (ts .nodes) k nodeFlags) nodeKindStep nodeKinds);
+unfoldable pub nodeAt : List ℕ → Table → ℕ → Node
+nodeAt image nodes k = record {
+  x = field image nodes k nodeX;
+  y = field image nodes k nodeY;
+  width = field image nodes k nodeWidth;
+  height = field image nodes k nodeHeight;
+  label = spanAt image nodes k nodeLabelStart nodeLabelCount;
+  kind = nodeKindOf (bits (field image nodes k nodeFlags) nodeKindStep nodeKinds);
   «self_loop» =
-      selfLoopOf (flag (field image (ts .nodes) k nodeFlags) selfLoop) (field image (ts .nodes) k nodeLoopX)
-      (field image (ts .nodes) k nodeLoopY);
+      selfLoopOf (flag (field image nodes k nodeFlags) selfLoop) (field image nodes k nodeLoopX)
+      (field image nodes k nodeLoopY);
 }
 
 -- "Corner: a bend. SideChannel: channel, span start, span end. MultiSegment: first point, count, start offset. Orthogonal: first point, count." A number
@@ -102,25 +102,25 @@ edgeLabelOf present span = cond present (label.Present span) label.None
 
 -- "edge, 12: from x, from y, to x, to y, flags, a, b, c, label start, label count, colour, label colour. Flags: path 3 bits, flow axis 1 (0 Y, 1 X),
 -- reversed 1, start marker 1, end marker 1, weight 2 (1 Dashed, 2 Light, 3 Double), label present 1"
-unfoldable pub edgeAt : List ℕ → Tables → ℕ → Edge
-edgeAt image ts k = record {
-  «from_x» = field image (ts .edges) k edgeFromX;
-  «from_y» = field image (ts .edges) k edgeFromY;
-  «to_x» = field image (ts .edges) k edgeToX;
-  «to_y» = field image (ts .edges) k edgeToY;
+unfoldable pub edgeAt : List ℕ → Table → ℕ → Edge
+edgeAt image edges k = record {
+  «from_x» = field image edges k edgeFromX;
+  «from_y» = field image edges k edgeFromY;
+  «to_x» = field image edges k edgeToX;
+  «to_y» = field image edges k edgeToY;
   path =
-      pathOf (bits (field image (ts .edges) k edgeFlags) pathStep paths) (field image (ts .edges) k edgeA)
-      (field image (ts .edges) k edgeB) (field image (ts .edges) k edgeC);
-  «flow_axis» = axisOf (flag (field image (ts .edges) k edgeFlags) flowX);
-  reversed = flag (field image (ts .edges) k edgeFlags) reversed;
-  «start_marker» = flag (field image (ts .edges) k edgeFlags) startMarker;
-  «end_marker» = flag (field image (ts .edges) k edgeFlags) endMarker;
-  weight = weightOf (bits (field image (ts .edges) k edgeFlags) weightStep weights);
+      pathOf (bits (field image edges k edgeFlags) pathStep paths) (field image edges k edgeA)
+      (field image edges k edgeB) (field image edges k edgeC);
+  «flow_axis» = axisOf (flag (field image edges k edgeFlags) flowX);
+  reversed = flag (field image edges k edgeFlags) reversed;
+  «start_marker» = flag (field image edges k edgeFlags) startMarker;
+  «end_marker» = flag (field image edges k edgeFlags) endMarker;
+  weight = weightOf (bits (field image edges k edgeFlags) weightStep weights);
   label =
-      edgeLabelOf (flag (field image (ts .edges) k edgeFlags) labelPresent)
-      (spanAt image (ts .edges) k edgeLabelStart edgeLabelCount);
-  colour = field image (ts .edges) k edgeColour;
-  «label_colour» = field image (ts .edges) k edgeLabelColour;
+      edgeLabelOf (flag (field image edges k edgeFlags) labelPresent)
+      (spanAt image edges k edgeLabelStart edgeLabelCount);
+  colour = field image edges k edgeColour;
+  «label_colour» = field image edges k edgeLabelColour;
 }
 
 -- "subgraph, 8: x, y, width, height, label start, label count, flags (border 2 bits, 0 none, else as edge weight; label position 1 bit, 0 InsideTop,
@@ -129,26 +129,26 @@ edgeAt image ts k = record {
 abbrev pub positionOf : Bool → LabelPosition
 positionOf bottom = cond bottom InsideBottom InsideTop
 
-unfoldable pub subgraphAt : List ℕ → Tables → ℕ → Subgraph
-subgraphAt image ts k = record {
-  x = field image (ts .subgraphs) k subgraphX;
-  y = field image (ts .subgraphs) k subgraphY;
-  width = field image (ts .subgraphs) k subgraphWidth;
-  height = field image (ts .subgraphs) k subgraphHeight;
-  label = spanAt image (ts .subgraphs) k subgraphLabelStart subgraphLabelCount;
-  border = weightOf (bits (field image (ts .subgraphs) k subgraphFlags) borderStep borders);
-  position = positionOf (flag (field image (ts .subgraphs) k subgraphFlags) insideBottom);
-  colour = field image (ts .subgraphs) k subgraphColour;
+unfoldable pub subgraphAt : List ℕ → Table → ℕ → Subgraph
+subgraphAt image subgraphs k = record {
+  x = field image subgraphs k subgraphX;
+  y = field image subgraphs k subgraphY;
+  width = field image subgraphs k subgraphWidth;
+  height = field image subgraphs k subgraphHeight;
+  label = spanAt image subgraphs k subgraphLabelStart subgraphLabelCount;
+  border = weightOf (bits (field image subgraphs k subgraphFlags) borderStep borders);
+  position = positionOf (flag (field image subgraphs k subgraphFlags) insideBottom);
+  colour = field image subgraphs k subgraphColour;
 }
 
 -- "placed label, 4: edge, x, y, flags (placeable, row has node)"
-unfoldable pub placedLabelAt : List ℕ → Tables → ℕ → PlacedLabel
-placedLabelAt image ts k = record {
-  edge = field image (ts .labels) k labelEdge;
-  x = field image (ts .labels) k labelX;
-  y = field image (ts .labels) k labelY;
-  placeable = flag (field image (ts .labels) k labelFlags) placeable;
-  «row_has_node» = flag (field image (ts .labels) k labelFlags) rowHasNode;
+unfoldable pub placedLabelAt : List ℕ → Table → ℕ → PlacedLabel
+placedLabelAt image labels k = record {
+  edge = field image labels k labelEdge;
+  x = field image labels k labelX;
+  y = field image labels k labelY;
+  placeable = flag (field image labels k labelFlags) placeable;
+  «row_has_node» = flag (field image labels k labelFlags) rowHasNode;
 }
 
 -- "element, 4: kind (0 Node, 1 Edge, 2 Subgraph), index, first row, last row"
@@ -167,10 +167,10 @@ thingTable kind.Node ts = ts .nodes
 thingTable kind.Edge ts = ts .edges
 thingTable kind.Subgraph ts = ts .subgraphs
 
-unfoldable pub elementAt : List ℕ → Tables → ℕ → Element
-elementAt image ts k = record {
-  kind = elementKindOf (field image (ts .elements) k elementKind);
-  index = field image (ts .elements) k elementIndex;
-  «first_row» = field image (ts .elements) k elementFirstRow;
-  «last_row» = field image (ts .elements) k elementLastRow;
+unfoldable pub elementAt : List ℕ → Table → ℕ → Element
+elementAt image elements k = record {
+  kind = elementKindOf (field image elements k elementKind);
+  index = field image elements k elementIndex;
+  «first_row» = field image elements k elementFirstRow;
+  «last_row» = field image elements k elementLastRow;
 }

@@ -1,17 +1,15 @@
--- Parts of tables as lists of words: an edge's points, a label's glyphs, the width ranges.
+-- Parts of tables as lists of words: a path's points, a label's glyphs, the width ranges.
 use Prim.Native.Nat.{ℕ, _+_, _*_, _/_}
 use mathlib.Core.Bool.{Bool, cond, _&&_}
 use mathlib.Core.List.{List, []}
 use lib.ListN.{length, take, drop}
 use lib.Dec.{leb}
 use Rattle.layout.specs.declared.Table.{Table}
-use Rattle.layout.specs.declared.Tables.{Tables}
 use Rattle.layout.specs.Layout.{pointSize, pointX, pointY}
 use Rattle.layout.specs.Tables.{word, tableEnd, recordAt}
 use Rattle.image.specs.declared.Span.{Span}
 use Rattle.image.specs.declared.Path.{Path}
 use Rattle.image.specs.declared.Path.the-variants.{Direct, Corner, SideChannel, MultiSegment, Orthogonal, Spline}
-use Rattle.image.specs.declared.Edge.{Edge}
 use Rattle.image.specs.declared.Point.{Point}
 
 -- not "start + count leaves its table"
@@ -34,14 +32,12 @@ pathSpan (MultiSegment span offset) = span
 pathSpan (Orthogonal span) = span
 pathSpan Spline = record { start = 0; count = 0 }
 
-unfoldable pub pointsOf : List ℕ → Tables → Edge → List ℕ
-pointsOf image ts edge = spanWords image (ts .points) (pathSpan (edge .path))
+abbrev pub pointsOf : List ℕ → Table → Path → List ℕ
+pointsOf image points path = spanWords image points (pathSpan path)
 
-abbrev pub glyphsOf : List ℕ → Tables → Span → List ℕ
-glyphsOf image ts span = spanWords image (ts .glyphs) span
-
-abbrev pub rangesOf : List ℕ → Tables → List ℕ
-rangesOf image ts = spanWords image (ts .ranges) (record { start = 0; count = ts .ranges .count })
+-- the words of a whole table, as the width ranges
+abbrev pub tableWords : List ℕ → Table → List ℕ
+tableWords image table = spanWords image table (record { start = 0; count = table .count })
 
 -- "point, 2: x, y": how many points there are in such a list of words, and point k of them
 

@@ -8,7 +8,7 @@ ghost use Rattle.layout.specs.Tables.{field};
 ghost use Rattle.layout.specs.Small.{Small, AllSmall};
 ghost use Rattle.image.specs.Records.{policyOf, headerOf, spanAt, nodeKindOf, selfLoopOf, nodeAt, pathOf, axisOf, edgeLabelOf, edgeAt};
 ghost use Rattle.image.specs.Records.{positionOf, subgraphAt, placedLabelAt, elementKindOf, elementKindNumber, thingTable, elementAt};
-ghost use Rattle.image.specs.Spans.{spanWords, pathSpan, pointsOf, glyphsOf, rangesOf, pointCount, pointAt};
+ghost use Rattle.image.specs.Spans.{spanWords, pathSpan, pointsOf, tableWords, pointCount, pointAt};
 ghost use Rattle.image.specs.Parts.{nodeKindAt, selfLoopAt, endsAt, styleAt, pathAt, edgeLabelAt, borderAt, positionAt};
 use cell::Weight;
 use layout::Table;
@@ -182,11 +182,10 @@ fn self_loop_at(image: &[u32], nodes: Table, k: usize) -> SelfLoop
     )
 }
 
-pub fn node_at(image: &[u32], ts: Tables, k: usize) -> Node
-    requires { ⌜ AllSmall ts × (k < 4294967296) ⌝ }
-    ensures { λ r. ⌜ r ≡ nodeAt (now (image .entry)) ts k ⌝ }
+pub fn node_at(image: &[u32], nodes: Table, k: usize) -> Node
+    requires { ⌜ Small nodes × (k < 4294967296) ⌝ }
+    ensures { λ r. ⌜ r ≡ nodeAt (now (image .entry)) nodes k ⌝ }
 {
-    let nodes = ts.nodes;
     Node {
         x: field(image, nodes, k, layout::NODE_X),
         y: field(image, nodes, k, layout::NODE_Y),
@@ -389,11 +388,10 @@ fn edge_label_at(image: &[u32], edges: Table, k: usize) -> EdgeLabel
     )
 }
 
-pub fn edge_at(image: &[u32], ts: Tables, k: usize) -> Edge
-    requires { ⌜ AllSmall ts × (k < 4294967296) ⌝ }
-    ensures { λ r. ⌜ r ≡ edgeAt (now (image .entry)) ts k ⌝ }
+pub fn edge_at(image: &[u32], edges: Table, k: usize) -> Edge
+    requires { ⌜ Small edges × (k < 4294967296) ⌝ }
+    ensures { λ r. ⌜ r ≡ edgeAt (now (image .entry)) edges k ⌝ }
 {
-    let edges = ts.edges;
     let ends = ends_at(image, edges, k);
     let style = style_at(image, edges, k);
     let flow_axis = style.flow_axis;
@@ -469,11 +467,10 @@ fn position_at(image: &[u32], subgraphs: Table, k: usize) -> LabelPosition
     LabelPosition::of(flag(flags, layout::INSIDE_BOTTOM))
 }
 
-pub fn subgraph_at(image: &[u32], ts: Tables, k: usize) -> Subgraph
-    requires { ⌜ AllSmall ts × (k < 4294967296) ⌝ }
-    ensures { λ r. ⌜ r ≡ subgraphAt (now (image .entry)) ts k ⌝ }
+pub fn subgraph_at(image: &[u32], subgraphs: Table, k: usize) -> Subgraph
+    requires { ⌜ Small subgraphs × (k < 4294967296) ⌝ }
+    ensures { λ r. ⌜ r ≡ subgraphAt (now (image .entry)) subgraphs k ⌝ }
 {
-    let subgraphs = ts.subgraphs;
     Subgraph {
         x: field(image, subgraphs, k, layout::SUBGRAPH_X),
         y: field(image, subgraphs, k, layout::SUBGRAPH_Y),
@@ -506,11 +503,10 @@ pub struct PlacedLabel {
     pub row_has_node: bool,
 }
 
-pub fn placed_label_at(image: &[u32], ts: Tables, k: usize) -> PlacedLabel
-    requires { ⌜ AllSmall ts × (k < 4294967296) ⌝ }
-    ensures { λ r. ⌜ r ≡ placedLabelAt (now (image .entry)) ts k ⌝ }
+pub fn placed_label_at(image: &[u32], labels: Table, k: usize) -> PlacedLabel
+    requires { ⌜ Small labels × (k < 4294967296) ⌝ }
+    ensures { λ r. ⌜ r ≡ placedLabelAt (now (image .entry)) labels k ⌝ }
 {
-    let labels = ts.labels;
     let flags = field(image, labels, k, layout::LABEL_FLAGS);
     PlacedLabel {
         edge: field(image, labels, k, layout::LABEL_EDGE),
@@ -573,11 +569,10 @@ pub fn thing_table(kind: ElementKind, ts: Tables) -> Table
     }
 }
 
-pub fn element_at(image: &[u32], ts: Tables, k: usize) -> Element
-    requires { ⌜ AllSmall ts × (k < 4294967296) ⌝ }
-    ensures { λ r. ⌜ r ≡ elementAt (now (image .entry)) ts k ⌝ }
+pub fn element_at(image: &[u32], elements: Table, k: usize) -> Element
+    requires { ⌜ Small elements × (k < 4294967296) ⌝ }
+    ensures { λ r. ⌜ r ≡ elementAt (now (image .entry)) elements k ⌝ }
 {
-    let elements = ts.elements;
     Element {
         kind: ElementKind::of(field(image, elements, k, layout::ELEMENT_KIND)),
         index: field(image, elements, k, layout::ELEMENT_INDEX),
@@ -599,37 +594,26 @@ fn path_span(path: Path) -> Span
     }
 }
 
-// The points of an edge's path.
-pub fn points_of(image: &[u32], ts: Tables, edge: Edge) -> &[u32]
-    requires { ⌜ AllSmall ts ⌝ }
-    ensures { λ r. ⌜ now r ≡ pointsOf (now (image .entry)) ts edge ⌝ }
+// The points of a path.
+pub fn points_of(image: &[u32], points: Table, path: Path) -> &[u32]
+    requires { ⌜ Small points ⌝ }
+    ensures { λ r. ⌜ now r ≡ pointsOf (now (image .entry)) points path ⌝ }
 {
-    let points = ts.points;
-    let path = edge.path;
     span_words(image, points, path_span(path))
 }
 
-// The glyphs of a label.
-pub fn glyphs_of(image: &[u32], ts: Tables, span: Span) -> &[u32]
-    requires { ⌜ AllSmall ts ⌝ }
-    ensures { λ r. ⌜ now r ≡ glyphsOf (now (image .entry)) ts span ⌝ }
+// The words of a whole table, as the width ranges.
+pub fn table_words(image: &[u32], table: Table) -> &[u32]
+    requires { ⌜ Small table ⌝ }
+    ensures { λ r. ⌜ now r ≡ tableWords (now (image .entry)) table ⌝ }
 {
-    let glyphs = ts.glyphs;
-    span_words(image, glyphs, span)
-}
-
-// The width ranges.
-pub fn ranges_of(image: &[u32], ts: Tables) -> &[u32]
-    requires { ⌜ AllSmall ts ⌝ }
-    ensures { λ r. ⌜ now r ≡ rangesOf (now (image .entry)) ts ⌝ }
-{
-    let ranges = ts.ranges;
+    let count = table.count as u32;
     span_words(
         image,
-        ranges,
+        table,
         Span {
             start: 0,
-            count: ranges.count as u32,
+            count: count,
         },
     )
 }

@@ -1,11 +1,9 @@
--- `points_of` gives the points of an edge's path.
+-- `points_of` gives the points of a path.
 use borrow.Author.Needs.{needs}
-use Rattle.image.specs.Spans.{pointsOf}
 use Rattle.image.proofs.points_of.Statement.{statement}
 use Rattle.image.proofs.points_of.Tie as tie
 
 returns : tie.Need-returns
-unfolding pointsOf
 returns c = cc
 
 pub points-of-spec : {M : Type 1} → statement M
