@@ -1,0 +1,42 @@
+-- What a leg of an Orthogonal path draws, by its cases.
+use mathlib.Core.Path.{_≡_, refl}
+use mathlib.Core.Bool.{true, false}
+use borrow.Author.Tests.{eq-eqb, ne-eqb}
+use Rattle.cell.specs.declared.Weight.{Weight}
+use Rattle.flow.specs.declared.Piece.{Piece}
+use Rattle.flow.specs.declared.Piece.the-variants.{Nothing}
+use Rattle.orthogonal.specs.declared.PathLeg.{PathLeg}
+use Rattle.orthogonal.specs.declared.EndMark.{EndMark}
+use Rattle.orthogonal.specs.Orthogonal.{columnLine, rowLine, legLine, bendPiece, legBendPiece}
+
+module _ (target source : EndMark) (leg : PathLeg) (r : Piece) where
+  -- its interior, along a column, along a row, and slanted
+
+  pub on-column : leg .from .x ≡ leg .to .x → r ≡ columnLine target source (leg .from) (leg .to) → r ≡ legLine target source leg
+  unfolding legLine
+  on-column h e = rw (eq-eqb _ _ h) e
+
+  pub on-row :
+      (leg .from .x ≡ leg .to .x → ⊥) →
+      leg .from .y ≡ leg .to .y →
+      r ≡ rowLine target source (leg .from) (leg .to) →
+      r ≡ legLine target source leg
+  unfolding legLine
+  on-row n h e = rw (ne-eqb _ _ n, eq-eqb _ _ h) e
+
+  pub on-neither :
+      (leg .from .x ≡ leg .to .x → ⊥) →
+      (leg .from .y ≡ leg .to .y → ⊥) →
+      r ≡ Nothing →
+      r ≡ legLine target source leg
+  unfolding legLine
+  on-neither n m e = rw (ne-eqb _ _ n, ne-eqb _ _ m) e
+
+  -- the bend at its start, where it is not the first
+  pub bend-after :
+      (w : Weight) →
+      leg .first ≡ false →
+      r ≡ bendPiece w target source (leg .from) (leg .before) (leg .to) →
+      r ≡ legBendPiece w target source leg
+  unfolding legBendPiece
+  bend-after w h e = rw h e
