@@ -1,13 +1,32 @@
--- What a leg of an Orthogonal path draws, by its cases.
+-- The points of a path, and what a leg of an Orthogonal path draws, by their cases.
+use native.Mathlib.Omega.{arith}
+use Prim.Native.Nat.{ℕ, _+_, _-_, _<_}
 use mathlib.Core.Path.{_≡_, refl}
 use mathlib.Core.Bool.{true, false}
-use borrow.Author.Tests.{eq-eqb, ne-eqb}
+use mathlib.Core.List.{List}
+use borrow.Author.Tests.{eq-eqb, ne-eqb, le-leb, lt-leb}
+use Rattle.image.specs.declared.Edge.{Edge}
 use Rattle.cell.specs.declared.Weight.{Weight}
 use Rattle.flow.specs.declared.Piece.{Piece}
 use Rattle.flow.specs.declared.Piece.the-variants.{Nothing}
 use Rattle.orthogonal.specs.declared.PathLeg.{PathLeg}
 use Rattle.orthogonal.specs.declared.EndMark.{EndMark}
+use Rattle.orthogonal.specs.Points.{pointCount, source, target, pointAt, pathPoint}
 use Rattle.orthogonal.specs.Orthogonal.{columnLine, rowLine, legLine, bendPiece, legBendPiece}
+
+-- Point k + 1 of the path is point k of those between, and after the last of these comes the target.
+
+module _ (e : Edge) (points : List ℕ) where
+  pub between-point : (k : ℕ) → k < pointCount points → pathPoint e points (k + 1) ≡ pointAt points k
+  unfolding pathPoint
+  between-point k h =
+      let z : k + 1 - 1 ≡ k = omega arith in
+      rw (ne-eqb (k + 1) 0 (λ q. omega arith), le-leb (k + 1) (pointCount points) (omega arith), z)
+
+  pub last-point : pathPoint e points (pointCount points + 1) ≡ target e
+  unfolding pathPoint
+  last-point =
+      rw (ne-eqb (pointCount points + 1) 0 (λ q. omega arith), lt-leb (pointCount points + 1) (pointCount points) (omega arith))
 
 module _ (target source : EndMark) (leg : PathLeg) (r : Piece) where
   -- its interior, along a column, along a row, and slanted

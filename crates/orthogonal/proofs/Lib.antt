@@ -2,3 +2,4 @@
 pub mod Laws
 pub mod Walked
 pub mod Marked
+pub mod Passing

@@ -110,12 +110,12 @@ next-within e points a k p j b h =
 -- A part of a path that starts at stop k: that stop, the rest, and how many there are.
 
 module _ (path : List Point) (k : ℕ) (a : Point) (r : List Point) (h : drop k path ≡ a ∷ r) where
-  part-head : stopAt path k ≡ a
+  pub part-head : stopAt path k ≡ a
   part-head =
       let z : k + 0 ≡ k = omega arith in
       sym (rw (h, z) at (getD-drop k path 0 (record { x = 0; y = 0 })))
 
-  part-tail : drop (k + 1) path ≡ r
+  pub part-tail : drop (k + 1) path ≡ r
   part-tail = sym (rw h at (drop-drop 1 k path))
 
   part-count : k + length r ≡ legCount path

@@ -2,3 +2,4 @@
 pub mod Points
 pub mod Orthogonal
 pub mod Walk
+pub mod Passing

@@ -1,10 +1,12 @@
 // "Orthogonal, both axes": a path through points, its legs handed back one by one, its two arrows, a leg's two pieces, and the rows that they touch.
 use cell::Dir;
 use image::Point;
+use rows::Rows;
 
 pub mod arrows;
 pub mod pieces;
 pub mod points;
+pub mod reach;
 pub mod walk;
 
 // An arrow of an Orthogonal path.
@@ -63,4 +65,14 @@ pub enum Step {
     Leg(PathLeg, Cursor),
     // no leg is left
     Done,
+}
+
+// How far a look along the points of an Orthogonal path has come, for its rows alone.
+pub struct Passed {
+    // the last stop
+    pub stop: Point,
+    // whether that is the source
+    pub first: bool,
+    // the rows that the legs up to it touch
+    pub rows: Rows,
 }
