@@ -43,10 +43,14 @@ onlyRows r = record { rows = r; runs = 0 }
 -- The rows of a leg's two pieces are the same with any arrows.
 
 module _ (window : Window) where
-  marked : (mark : EndMark) (at : Point) (p : Piece) → pieceReach window p ≡ onlyRows (windowRows window (at .y) (at .y)) → pieceReach window (markOr mark at p) ≡ onlyRows (windowRows window (at .y) (at .y))
-  unfolding pieceRows pieceRunsIn
-  marked end.None at p h = h
-  marked (end.At x y dir) at p h = by-bool (eqb x (at .x) && eqb y (at .y)) (λ t. rw t) (λ t. rw t h)
+  -- a marker in a cell touches the row that what is drawn there touches
+  marked :
+      (mark : EndMark) (x y : ℕ) (p : Piece) →
+      pieceReach window p ≡ onlyRows (windowRows window y y) →
+      pieceReach window (markOr mark x y p) ≡ onlyRows (windowRows window y y)
+  unfolding markOr pieceRows pieceRunsIn
+  marked end.None x y p h = h
+  marked (end.At column row dir) x y p h = by-bool (eqb column x && eqb row y) (λ t. rw t) (λ t. rw t h)
 
   -- the bend at a leg's start
   bend-reach :
@@ -56,7 +60,7 @@ module _ (window : Window) where
       pieceReach window (legBendPiece w target source leg) ≡ onlyRows (bendRows window first (from .y))
   unfolding legBendPiece bendPiece bendRows pieceRows pieceRunsIn
   bend-reach w target source leg true from p q = rw p
-  bend-reach w target source leg false from p q = rw (p, q) (marked target from _ (marked source from _ refl))
+  bend-reach w target source leg false from p q = rw (p, q) (marked target (from .x) (from .y) _ (marked source (from .x) (from .y) _ refl))
 
   -- its interior
   line-reach :

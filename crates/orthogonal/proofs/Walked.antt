@@ -28,25 +28,38 @@ by-stop : {P : Type 0} (s : Stop) → (s ≡ stop.End → P) → ((b : Point) (j
 by-stop stop.End f g = f refl
 by-stop (stop.At b j) f g = g b j refl
 
--- A turn of the search for the next stop: no point is left, this point repeats the stop, and it does not.
+-- A turn of the search from point k for the next stop, at point i: no point is left, this point repeats the stop, and it does not.
 
-module _ (e : Edge) (points : List ℕ) (a : Point) (k : ℕ) (r : Stop) (i : nextStop e points a k ≡ r) where
-  pub no-stop : pointCount points + 2 ≤ k → stop.End ≡ r
+module _ (e : Edge) (points : List ℕ) (a : Point) (k i : ℕ) (inv : nextStop e points a i ≡ nextStop e points a k) where
+  pub no-stop : pointCount points + 2 ≤ i → stop.End ≡ nextStop e points a k
   unfolding nextStop stopFrom
-  no-stop h = let n : pointsLeft points k ≡ 0 = omega arith in rw n at i
+  no-stop h = let n : pointsLeft points i ≡ 0 = omega arith in rw n at inv
 
-  turn : k < pointCount points + 2 → stopFrom e points a k (suc (pointsLeft points (suc k))) ≡ r
+  turn : i < pointCount points + 2 → stopFrom e points a i (suc (pointsLeft points (suc i))) ≡ nextStop e points a k
   unfolding nextStop
-  turn h = ap (stopFrom e points a k) (omega arith) ∙ i
+  turn h = ap (stopFrom e points a i) (omega arith) ∙ inv
 
-  module _ (h : k < pointCount points + 2) (p : Point) (q : p ≡ pathPoint e points k) (same : Bool) (s : same ≡ samePoint a p) where
-    pub stop-repeated : same ≡ true → nextStop e points a (k + 1) ≡ r
+  module _ (h : i < pointCount points + 2) (p : Point) (q : p ≡ pathPoint e points i) where
+    pub stop-repeated : samePoint a p ≡ true → nextStop e points a (i + 1) ≡ nextStop e points a k
     unfolding nextStop stopFrom
-    stop-repeated t = rw add-one (rw (← q, ← s, t) at (turn h))
+    stop-repeated t = rw add-one (rw (← q, t) at (turn h))
 
-    pub stop-found : same ≡ false → stop.At p (k + 1) ≡ r
+    pub stop-found : samePoint a p ≡ false → stop.At p (i + 1) ≡ nextStop e points a k
     unfolding stopFrom
-    stop-found t = rw add-one (rw (← q, ← s, t) at (turn h))
+    stop-found t = rw add-one (rw (← q, t) at (turn h))
+
+-- A step to the stop ahead.
+pub stepped :
+    (e : Edge) (points : List ℕ) (c : Cursor) (to : Point) (k : ℕ) (after : Stop) (last : Bool) →
+    after ≡ nextStop e points to k →
+    c .ahead ≡ stop.At to k →
+    last ≡ isEnd after →
+    step.Leg
+    (record { before = c .before; from = c .stop; to = to; first = c .first; last = last })
+    (record { before = c .stop; stop = to; ahead = after; first = false })
+    ≡ stepOf e points c
+unfolding stepOf
+stepped e points c to k after last n h l = rw (h, l, n)
 
 -- The stops ahead, by the search and by the definition.
 

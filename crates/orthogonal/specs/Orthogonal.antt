@@ -26,7 +26,7 @@ use Rattle.orthogonal.specs.declared.EndMarks.{EndMarks}
 use Rattle.orthogonal.specs.Points.{stops, stopAt, legCount}
 
 -- from a cell toward another: "x compared first"
-abbrev pub toward : Point → Point → Dir
+unfoldable pub toward : Point → Point → Dir
 toward a t = cond (ltb (t .x) (a .x)) Left (cond (ltb (a .x) (t .x)) Right (cond (ltb (t .y) (a .y)) Up Down))
 
 -- a leg along a column or a row; any other is slanted
@@ -116,14 +116,15 @@ unfoldable pub bendArms : Weight → Point → Point → Point → Arms
 bendArms w at before next = heavierArms (onlyArm w (toward at before)) (onlyArm w (toward at next))
 
 -- the marker in a cell, or else what is drawn there
-abbrev pub markOr : EndMark → Point → Piece → Piece
-markOr end.None at other = other
-markOr (end.At x y dir) at other = cond (eqb x (at .x) && eqb y (at .y)) (Mark (at .x) (at .y) dir) other
+unfoldable pub markOr : EndMark → ℕ → ℕ → Piece → Piece
+markOr end.None x y other = other
+markOr (end.At column row dir) x y other = cond (eqb column x && eqb row y) (Mark x y dir) other
 
 -- the bend at a stop: "target wins"
 unfoldable pub bendPiece : Weight → EndMark → EndMark → Point → Point → Point → Piece
 bendPiece w target source at before next =
-    markOr target at (markOr source at (Stroke (at .x) (at .y) (bendArms w at before next)))
+    markOr target (at .x) (at .y)
+    (markOr source (at .x) (at .y) (Stroke (at .x) (at .y) (bendArms w at before next)))
 
 -- the bend at a leg's start: there is none at the source
 unfoldable pub legBendPiece : Weight → EndMark → EndMark → PathLeg → Piece

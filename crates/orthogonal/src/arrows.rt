@@ -85,7 +85,7 @@ fn mark_facing(at: Point, t: Point) -> EndMark
     }
 }
 
-// "one cell inside a leg of length ≥ 2, else the neighbouring bend, else none"
+// "one cell inside a leg of length ≥ 2, else the neighbouring bend, else none"; "slanted legs .. give no marker".
 fn end_mark(wanted: bool, only: bool, at: Point, next: Point) -> EndMark
     ensures { λ r. ⌜ r ≡ endMark wanted only at next ⌝ }
 {
@@ -94,9 +94,10 @@ fn end_mark(wanted: bool, only: bool, at: Point, next: Point) -> EndMark
             if is_long(at, next) {
                 return mark_facing(inside(at, next), at);
             }
-            if !only {
-                return mark_facing(next, at);
+            if only {
+                return EndMark::None;
             }
+            return mark_facing(next, at);
         }
     }
     EndMark::None

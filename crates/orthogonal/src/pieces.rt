@@ -124,14 +124,19 @@ fn bend_arms(w: Weight, at: Point, before: Point, next: Point) -> Arms
 }
 
 // The arrow in a cell, or else what is drawn there.
-fn mark_or(mark: EndMark, at: Point, other: Piece) -> Piece
-    ensures { λ r. ⌜ r ≡ markOr mark at other ⌝ }
+fn mark_or(mark: EndMark, x: usize, y: usize, other: Piece) -> Piece
+    ensures { λ r. ⌜ r ≡ markOr mark x y other ⌝ }
 {
-    let EndMark::At { x, y, dir } = mark else {
+    let EndMark::At {
+        x: column,
+        y: row,
+        dir,
+    } = mark
+    else {
         return other;
     };
-    if x == ground::number(at.x) {
-        if y == ground::number(at.y) {
+    if column == x {
+        if row == y {
             return Piece::Mark {
                 x: x,
                 y: y,
@@ -142,19 +147,7 @@ fn mark_or(mark: EndMark, at: Point, other: Piece) -> Piece
     other
 }
 
-// The bend at a leg's start: none at the source, else the target's arrow, the source's, or arms.
-pub fn leg_bend_piece(w: Weight, target: EndMark, source: EndMark, leg: PathLeg) -> Piece
-    ensures { λ r. ⌜ r ≡ legBendPiece w target source leg ⌝ }
-{
-    let before = leg.before;
-    let from = leg.from;
-    let to = leg.to;
-    if leg.first {
-        return Piece::Nothing;
-    }
-    bend_piece(w, target, source, from, before, to)
-}
-
+// The bend at a stop: the target's arrow, the source's, or arms.
 fn bend_piece(
     w: Weight,
     target: EndMark,
@@ -165,10 +158,25 @@ fn bend_piece(
 ) -> Piece
     ensures { λ r. ⌜ r ≡ bendPiece w target source at before next ⌝ }
 {
+    let x = ground::number(at.x);
+    let y = ground::number(at.y);
     let bend = Piece::Stroke {
-        x: ground::number(at.x),
-        y: ground::number(at.y),
+        x: x,
+        y: y,
         arms: bend_arms(w, at, before, next),
     };
-    mark_or(target, at, mark_or(source, at, bend))
+    mark_or(target, x, y, mark_or(source, x, y, bend))
+}
+
+// The bend at a leg's start: there is none at the source.
+pub fn leg_bend_piece(w: Weight, target: EndMark, source: EndMark, leg: PathLeg) -> Piece
+    ensures { λ r. ⌜ r ≡ legBendPiece w target source leg ⌝ }
+{
+    let before = leg.before;
+    let from = leg.from;
+    let to = leg.to;
+    if leg.first {
+        return Piece::Nothing;
+    }
+    bend_piece(w, target, source, from, before, to)
 }

@@ -17,13 +17,14 @@ fn next_stop(e: Edge, points: &[u32], a: Point, k: usize) -> Stop
     let mut i = k;
     while i < end {
         let p = points::path_point(e, points, i);
-        if !points::same_point(a, p) {
+        if points::same_point(a, p) {
+            i += 1;
+        } else {
             return Stop::At {
                 point: p,
                 next: i + 1,
             };
         }
-        i += 1;
     }
     Stop::End
 }

@@ -1,19 +1,14 @@
 -- `toward` compares x first.
-use borrow.Author.Tests.{lt-ltb, le-ltb}
+use borrow.Author.Needs.{needs}
+use Rattle.orthogonal.proofs.Laws.{toward-left, toward-right, toward-up, toward-down}
 use Rattle.orthogonal.proofs.arrows.toward.Statement.{statement}
 use Rattle.orthogonal.proofs.arrows.toward.Tie as tie
 
-returns : tie.Need-returns
-returns c = rw (lt-ltb _ _ (c .if1 .taken))
-
-returns-2 : tie.Need-returns-2
-returns-2 c = rw (le-ltb _ _ (c .before .before .before .if1 .left), lt-ltb _ _ (c .if2 .taken))
-
-returns-3 : tie.Need-returns-3
-returns-3 c = rw (le-ltb _ _ (c .before .before .before .before .before .before .if1 .left), le-ltb _ _ (c .before .before .before .if2 .left), lt-ltb _ _ (c .if3 .taken))
-
-returns-4 : tie.Need-returns-4
-returns-4 c = rw (le-ltb _ _ (c .before .before .before .before .before .before .if1 .left), le-ltb _ _ (c .before .before .before .if2 .left), le-ltb _ _ (c .if3 .left))
-
 pub toward-spec : {M : Type 1} → statement M
-toward-spec = tie.close (tie.spec returns returns-2 returns-3 returns-4)
+toward-spec =
+    tie.close
+    (tie.spec
+    (λ c. toward-left _ _ (search needs))
+    (λ c. toward-right _ _ (search needs))
+    (λ c. toward-up _ _ (search needs) (search needs))
+    (λ c. toward-down _ _ (search needs) (search needs)))
