@@ -48,7 +48,7 @@ module _ (window : Window) where
       (mark : EndMark) (x y : ℕ) (p : Piece) →
       pieceReach window p ≡ onlyRows (windowRows window y y) →
       pieceReach window (markOr mark x y p) ≡ onlyRows (windowRows window y y)
-  unfolding markOr pieceRows pieceRunsIn
+  unfolding markOr pieceRows pieceRunsIn pieceReach
   marked end.None x y p h = h
   marked (end.At column row dir) x y p h = by-bool (eqb column x && eqb row y) (λ t. rw t) (λ t. rw t h)
 
@@ -58,7 +58,7 @@ module _ (window : Window) where
       leg .first ≡ first →
       leg .from ≡ from →
       pieceReach window (legBendPiece w target source leg) ≡ onlyRows (bendRows window first (from .y))
-  unfolding legBendPiece bendPiece bendRows pieceRows pieceRunsIn
+  unfolding legBendPiece bendPiece bendRows pieceRows pieceRunsIn pieceReach
   bend-reach w target source leg true from p q = rw p
   bend-reach w target source leg false from p q = rw (p, q) (marked target (from .x) (from .y) _ (marked source (from .x) (from .y) _ refl))
 
@@ -68,7 +68,7 @@ module _ (window : Window) where
       leg .from ≡ from →
       leg .to ≡ to →
       pieceReach window (legLine target source leg) ≡ onlyRows (lineRows window from to)
-  unfolding legLine columnLine rowLine lineOf lineRows pieceRows pieceRunsIn
+  unfolding legLine columnLine rowLine lineOf lineRows pieceRows pieceRunsIn pieceReach
   line-reach target source leg from to p q =
       rw (p, q)
       (by-bool (eqb (from .x) (to .x)) (λ t. rw t)
@@ -80,15 +80,8 @@ module _ (window : Window) where
       pieceReach window q ≡ onlyRows b →
       reachOf window rest ≡ onlyRows c →
       reachOf window (p ∷ q ∷ rest) ≡ onlyRows (joinRows a (joinRows b c))
-  unfolding reachOf
-  two-more p q rest a b c e f g =
-      rw (
-        ap (λ (r : Reach). r .rows) e,
-        ap (λ (r : Reach). r .runs) e,
-        ap (λ (r : Reach). r .rows) f,
-        ap (λ (r : Reach). r .runs) f,
-        g,
-      )
+  unfolding reachOf joinReach
+  two-more p q rest a b c e f g = rw (e, f, g)
 
   -- the rows of a leg's interior, along a column, along a row, and slanted
 

@@ -1,9 +1,4 @@
--- What document 01 says of the way of an edge: its pieces, the rows that they touch, and its runs.
-pub mod Flow
-pub mod Bounds
-pub mod YFlow
-pub mod XFlow
-pub mod Orthogonal
-pub mod Walk
+-- What document 01 says of the way of an edge: its pieces, the rows that they touch, its runs, and its corners below 0.
 pub mod Pieces
-pub mod Rows
+pub mod Touched
+pub mod Corners
