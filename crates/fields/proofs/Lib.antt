@@ -1,3 +1,4 @@
--- What is shown of an image's words: the laws that the functions' proofs cite, and the theorems.
+-- What is shown of all records: the laws that the functions' proofs cite, and the theorem.
 pub mod Laws
+pub mod Kept
 pub mod Theorems

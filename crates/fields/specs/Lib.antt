@@ -1,4 +1,4 @@
--- What document 01 says of the words of an image by themselves: codes 2, 4 and 5.
-pub mod Header
-pub mod Records
-pub mod Ranges
+-- What document 01 says of all records of an image: code 4.
+pub mod Tables
+pub mod Good
+pub mod Left

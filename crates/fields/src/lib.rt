@@ -1,76 +1,206 @@
-// The words of an image by themselves: codes 2, 4 and 5.
+// Code 4: the records of each table in turn.
 ghost use mathlib.Core.Path.{_≡_};
-ghost use mathlib.Core.Bool.{not};
-ghost use lib.Dec.{leb};
-ghost use Rattle.ground.specs.First.{foundIf, orElse};
-ghost use Rattle.image.specs.SheetImage.{word};
-ghost use Rattle.fields.specs.Header.{badHeader};
+ghost use Rattle.ground.specs.Each.{each};
+ghost use Rattle.ground.specs.Judged.{firstBad};
+ghost use Rattle.layout.specs.Small.{Small, AllSmall};
+ghost use Rattle.records.specs.Records.{nodeRules, edgeRules, subgraphRules, placedLabelRules, elementRules, pointRules, glyphRules, rangeRules};
+ghost use Rattle.fields.specs.Tables.{tableJudged, kindJudged, firstKinds, lastKinds, recordsJudged};
 use ground::Found;
-use image::word;
+use ground::or_else;
+use layout::Table;
+use layout::Tables;
+use layout::record_at;
+use records::bad_edge;
+use records::bad_element;
+use records::bad_glyph;
+use records::bad_node;
+use records::bad_placed_label;
+use records::bad_point;
+use records::bad_range_words;
+use records::bad_subgraph;
 
-pub mod ranges;
-pub mod records;
-
-// The kinds of records, in the order of their tables.
-pub enum RecordKind {
-    Node,
-    Edge,
-    Subgraph,
-    PlacedLabel,
-    Element,
-    Point,
-    Glyph,
-    Range,
-}
-
-// A word that is not good is found at its place.
-fn unless(good: bool, place: usize) -> Found
-    ensures { λ r. ⌜ r ≡ foundIf (not good) place ⌝ }
+// The nodes, where so many glyphs are held.
+fn bad_nodes(image: &[u32], table: Table, glyphs: usize) -> Found
+    requires { ⌜ Small table ⌝ }
+    ensures { λ r. ⌜ r ≡ firstBad (tableJudged (now (image .entry)) table (nodeRules glyphs)) ⌝ }
 {
-    if good { Found::None } else { Found::At(place) }
-}
-
-// The first of the two that is there.
-pub fn or_else(one: Found, other: Found) -> Found
-    ensures { λ r. ⌜ r ≡ orElse one other ⌝ }
-{
-    match one {
-        Found::At(place) => one,
-        Found::None => other,
+    let count = table.count;
+    let mut k: usize = 0;
+    while k < count {
+        let found = bad_node(image, record_at(table, k), glyphs);
+        if let Found::At(place) = found {
+            return found;
+        }
+        k += 1;
     }
+    Found::None
 }
 
-fn at_most(image: &[u32], at: usize, limit: u32) -> Found
-    ensures { λ r. ⌜ r ≡ foundIf (not (leb (word (now (image .entry)) at) limit)) at ⌝ }
+// The edges, where so many points and glyphs are held.
+fn bad_edges(image: &[u32], table: Table, points: usize, glyphs: usize) -> Found
+    requires { ⌜ Small table ⌝ }
+    ensures { λ r. ⌜ r ≡ firstBad (tableJudged (now (image .entry)) table (edgeRules points glyphs)) ⌝ }
 {
-    unless(word(image, at) <= limit, at)
+    let count = table.count;
+    let mut k: usize = 0;
+    while k < count {
+        let found = bad_edge(image, record_at(table, k), points, glyphs);
+        if let Found::At(place) = found {
+            return found;
+        }
+        k += 1;
+    }
+    Found::None
 }
 
-// Code 2: "header number over its limit or spare bit set".
-pub fn bad_header(image: &[u32]) -> Found
-    ensures { λ r. ⌜ r ≡ badHeader (now (image .entry)) ⌝ }
+// The subgraphs, where so many glyphs are held.
+fn bad_subgraphs(image: &[u32], table: Table, glyphs: usize) -> Found
+    requires { ⌜ Small table ⌝ }
+    ensures { λ r. ⌜ r ≡ firstBad (tableJudged (now (image .entry)) table (subgraphRules glyphs)) ⌝ }
 {
-    let flags = unless(word(image, 3) % 0x4000_0000 == 0, 3);
-    let sizes = or_else(
-        at_most(image, 0, 1024),
-        or_else(
-            at_most(image, 1, 32767),
-            or_else(at_most(image, 2, 16384), flags),
-        ),
+    let count = table.count;
+    let mut k: usize = 0;
+    while k < count {
+        let found = bad_subgraph(image, record_at(table, k), glyphs);
+        if let Found::At(place) = found {
+            return found;
+        }
+        k += 1;
+    }
+    Found::None
+}
+
+// The placed labels, where so many edges are held.
+fn bad_placed_labels(image: &[u32], table: Table, edges: usize) -> Found
+    requires { ⌜ Small table ⌝ }
+    ensures { λ r. ⌜ r ≡ firstBad (tableJudged (now (image .entry)) table (placedLabelRules edges)) ⌝ }
+{
+    let count = table.count;
+    let mut k: usize = 0;
+    while k < count {
+        let found = bad_placed_label(image, record_at(table, k), edges);
+        if let Found::At(place) = found {
+            return found;
+        }
+        k += 1;
+    }
+    Found::None
+}
+
+// The elements, where so many nodes, edges and subgraphs are held.
+fn bad_elements(image: &[u32], table: Table, nodes: usize, edges: usize, subgraphs: usize) -> Found
+    requires { ⌜ Small table ⌝ }
+    ensures { λ r. ⌜ r ≡ firstBad (tableJudged (now (image .entry)) table (elementRules nodes edges subgraphs)) ⌝ }
+{
+    let count = table.count;
+    let mut k: usize = 0;
+    while k < count {
+        let found = bad_element(image, record_at(table, k), nodes, edges, subgraphs);
+        if let Found::At(place) = found {
+            return found;
+        }
+        k += 1;
+    }
+    Found::None
+}
+
+// The points.
+fn bad_points(image: &[u32], table: Table) -> Found
+    requires { ⌜ Small table ⌝ }
+    ensures { λ r. ⌜ r ≡ firstBad (tableJudged (now (image .entry)) table pointRules) ⌝ }
+{
+    let count = table.count;
+    let mut k: usize = 0;
+    while k < count {
+        let found = bad_point(image, record_at(table, k));
+        if let Found::At(place) = found {
+            return found;
+        }
+        k += 1;
+    }
+    Found::None
+}
+
+// The glyphs.
+fn bad_glyphs(image: &[u32], table: Table) -> Found
+    requires { ⌜ Small table ⌝ }
+    ensures { λ r. ⌜ r ≡ firstBad (tableJudged (now (image .entry)) table glyphRules) ⌝ }
+{
+    let count = table.count;
+    let mut k: usize = 0;
+    while k < count {
+        let found = bad_glyph(image, record_at(table, k));
+        if let Found::At(place) = found {
+            return found;
+        }
+        k += 1;
+    }
+    Found::None
+}
+
+// The width ranges.
+fn bad_ranges(image: &[u32], table: Table) -> Found
+    requires { ⌜ Small table ⌝ }
+    ensures { λ r. ⌜ r ≡ firstBad (tableJudged (now (image .entry)) table rangeRules) ⌝ }
+{
+    let count = table.count;
+    let mut k: usize = 0;
+    while k < count {
+        let found = bad_range_words(image, record_at(table, k));
+        if let Found::At(place) = found {
+            return found;
+        }
+        k += 1;
+    }
+    Found::None
+}
+
+// The first four tables.
+fn bad_in_first(image: &[u32], ts: Tables) -> Found
+    requires { ⌜ AllSmall ts ⌝ }
+    ensures { λ r. ⌜ r ≡ firstBad (each firstKinds (kindJudged (now (image .entry)) ts)) ⌝ }
+{
+    let edges = ts.edges;
+    let points = ts.points;
+    let glyphs = ts.glyphs;
+    let in_nodes = bad_nodes(image, ts.nodes, glyphs.count);
+    let in_edges = bad_edges(image, edges, points.count, glyphs.count);
+    let in_subgraphs = bad_subgraphs(image, ts.subgraphs, glyphs.count);
+    let in_labels = bad_placed_labels(image, ts.labels, edges.count);
+    or_else(
+        in_nodes,
+        or_else(in_edges, or_else(in_subgraphs, in_labels)),
+    )
+}
+
+// The last four tables.
+fn bad_in_last(image: &[u32], ts: Tables) -> Found
+    requires { ⌜ AllSmall ts ⌝ }
+    ensures { λ r. ⌜ r ≡ firstBad (each lastKinds (kindJudged (now (image .entry)) ts)) ⌝ }
+{
+    let nodes = ts.nodes;
+    let edges = ts.edges;
+    let subgraphs = ts.subgraphs;
+    let in_elements = bad_elements(
+        image,
+        ts.elements,
+        nodes.count,
+        edges.count,
+        subgraphs.count,
     );
-    let things = or_else(
-        at_most(image, 4, 1024),
-        or_else(
-            at_most(image, 5, 1024),
-            or_else(at_most(image, 6, 1024), at_most(image, 7, 1024)),
-        ),
-    );
-    let lists = or_else(
-        at_most(image, 8, 3072),
-        or_else(
-            at_most(image, 9, 8192),
-            or_else(at_most(image, 10, 16384), at_most(image, 11, 1024)),
-        ),
-    );
-    or_else(sizes, or_else(things, lists))
+    let in_points = bad_points(image, ts.points);
+    let in_glyphs = bad_glyphs(image, ts.glyphs);
+    let in_ranges = bad_ranges(image, ts.ranges);
+    or_else(
+        in_elements,
+        or_else(in_points, or_else(in_glyphs, in_ranges)),
+    )
+}
+
+// Code 4: "a record field breaks its rule; an index or start + count leaves its table".
+pub fn bad_record_field(image: &[u32], ts: Tables) -> Found
+    requires { ⌜ AllSmall ts ⌝ }
+    ensures { λ r. ⌜ r ≡ firstBad (recordsJudged (now (image .entry)) ts) ⌝ }
+{
+    or_else(bad_in_first(image, ts), bad_in_last(image, ts))
 }

@@ -1,0 +1,31 @@
+-- `bad_ranges` finds the first word of a width range that breaks its rule. The invariant: what is found from record k on is what is found in all. The measure: how many are left.
+use borrow.Author.Needs.{needs}
+use Prim.Native.Nat.{_-_}
+use Rattle.fields.specs.Left.{FromRecord}
+use Rattle.records.specs.Records.{rangeRules}
+use Rattle.fields.proofs.Laws.{through}
+use Rattle.fields.proofs.bad_ranges.Statement.{statement}
+use Rattle.fields.proofs.bad_ranges.Tie as tie
+
+abbrev Inv-loop : tie.InvT-loop
+Inv-loop image table count k₀ k = FromRecord image table rangeRules k
+
+abbrev μ-loop : tie.MeasureT-loop
+μ-loop image table count k₀ k = count - k
+
+pub bad-ranges-spec : {M : Type 1} → statement M
+bad-ranges-spec =
+    tie.close
+    (tie.spec
+    Inv-loop
+    μ-loop
+    (λ c. search through)
+    (λ c κs. search needs)
+    (λ c κs. search needs)
+    (λ c. search needs)
+    (λ c. search (through, needs))
+    (λ c. search needs)
+    (λ c. search needs)
+    (λ c. search needs)
+    (λ c. search (through, needs))
+    (λ c. search (through, needs)))

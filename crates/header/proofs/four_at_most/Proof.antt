@@ -1,0 +1,23 @@
+-- `four_at_most` finds the first of four numbers that is over their limit.
+use borrow.Author.Needs.{needs}
+use Rattle.header.specs.InTurn.{orWords}
+use native.Mathlib.Nat.{add-zero}
+use Rattle.header.proofs.four_at_most.Statement.{statement}
+use Rattle.header.proofs.four_at_most.Tie as tie
+
+returns : tie.Need-returns
+unfolding orWords
+returns c = rw add-zero (cc)
+
+pub four-at-most-spec : {M : Type 1} → statement M
+four-at-most-spec =
+    tie.close
+    (tie.spec
+    (λ c κs. search needs)
+    (λ c. search needs)
+    (λ c κs. search needs)
+    (λ c. search needs)
+    (λ c κs. search needs)
+    (λ c. search needs)
+    (λ c κs. search needs)
+    returns)

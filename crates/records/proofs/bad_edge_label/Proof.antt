@@ -1,0 +1,27 @@
+-- `bad_edge_label` finds the first word of an edge's label that breaks its rule.
+use borrow.Author.Needs.{needs}
+use Rattle.header.specs.InTurn.{orWords}
+use Rattle.records.proofs.bad_edge_label.Statement.{statement}
+use Rattle.records.proofs.bad_edge_label.Tie as tie
+
+returns : tie.Need-returns
+unfolding orWords
+returns c = cc
+
+pub bad-edge-label-spec : {M : Type 1} → statement M
+bad-edge-label-spec =
+    tie.close
+    (tie.spec
+    (λ c. search needs)
+    (λ c κs. search needs)
+    (λ c. search needs)
+    (λ c κs. search needs)
+    (λ c. search needs)
+    (λ c κs. search needs)
+    (λ c κs. search needs)
+    (λ c. search needs)
+    (λ c κs. search needs)
+    (λ c κs. search needs)
+    (λ c. search needs)
+    (λ c κs. search needs)
+    returns)

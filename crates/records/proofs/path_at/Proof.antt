@@ -1,0 +1,23 @@
+-- `path_at` tells of an edge's a, b and c whether each keeps the rule of its path.
+use borrow.Author.Needs.{needs}
+use Rattle.records.proofs.path_at.Statement.{statement}
+use Rattle.records.proofs.path_at.Tie as tie
+
+returns : tie.Need-returns
+returns c = cc
+
+pub path-at-spec : {M : Type 1} → statement M
+path-at-spec =
+    tie.close
+    (tie.spec
+    (λ c. search needs)
+    (λ c κs. search needs)
+    (λ c κs. search needs)
+    (λ c. search needs)
+    (λ c κs. search needs)
+    (λ c. search needs)
+    (λ c κs. search needs)
+    (λ c. search needs)
+    (λ c κs. search needs)
+    (λ c κs. search needs)
+    returns)
