@@ -248,14 +248,10 @@ fn report(image: &[u32]) {
     }
 }
 
-// "an image of at most 16,384 words": one byte more is looked for, so that a longer input is never taken for a whole one.
-fn main() {
-    let mut bytes = io::large_buffer();
-    let mut words = [0u32; 16384];
-    let got = io::read_full(STDIN_FILENO, &mut bytes);
-    let mut more = [0u8; 1];
-    let over = io::read_full(STDIN_FILENO, &mut more);
-    if 0 < over {
+// Reads an image and reports on it. The lent bytes have room for one more than the largest image has: where they are filled the input is longer, and is never taken for a whole one.
+fn report_input(bytes: &mut [u8], words: &mut [u32]) {
+    let got = io::read_full(STDIN_FILENO, bytes);
+    if got == bytes.len() {
         say::too_long();
         return;
     }
@@ -263,6 +259,13 @@ fn main() {
         say::broken(got);
         return;
     }
-    let count = wordfile::fill(&bytes[..got], &mut words);
+    let count = wordfile::fill(&bytes[..got], words);
     report(&words[..count]);
+}
+
+// The header and every table at its limit: 12 + 1,024 * 9 + 1,024 * 12 + 1,024 * 8 + 1,024 * 4 + 3,072 * 4 + 8,192 * 2 + 16,384 + 1,024 * 3 words.
+fn main() {
+    let mut bytes = [0u8; 327729];
+    let mut words = [0u32; 81932];
+    report_input(&mut bytes, &mut words);
 }

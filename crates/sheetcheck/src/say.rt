@@ -30,7 +30,7 @@ pub fn refused(code: u32, place: usize) {
 
 pub fn too_long() {
     text(
-        b"unread\nthe input has over 65536 bytes; this program reads images of at most 16384 words, of four bytes each\n",
+        b"unread\nthe input has over 327728 bytes; an image has at most 81932 words, of four bytes each\n",
     );
 }
 
