@@ -1,0 +1,2 @@
+-- What a caller from C or Rust is told.
+pub mod Told
