@@ -48,7 +48,8 @@ pub fn full_images() -> Vec<(u32, Vec<u32>)> {
     images
 }
 
-fn full_draft() -> Draft {
+/// The one that is accepted.
+pub fn full_draft() -> Draft {
     let mut draft = Draft::blank_sheet(HEADER_LIMITS[0], 1_100);
     draft.head[RUN_CAPACITY_WORD] = HEADER_LIMITS[RUN_CAPACITY_WORD];
     for table in 0..TABLES {

@@ -833,7 +833,7 @@ pub fn code_targets(seed: u64) -> Vec<(u32, Vec<u32>)> {
     add(8, targets_of_code_8(&base));
     add(9, targets_of_code_9_by_one_row(&base));
     add(10, targets_of_code_10(&base));
-    add(0, vec![listed_exactly(&base)]);
+    add(0, vec![listed_exactly(&base).to_words()]);
     targets.extend(targets_by_hand(&base));
     targets.extend(targets_at_the_limits(&base));
     targets.extend(targets_named_in_the_text());
@@ -1232,14 +1232,14 @@ fn targets_of_code_9_by_one_row(base: &Draft) -> Vec<Vec<u32>> {
 }
 
 /// The shortest list: only what touches the sheet, and no row too many.
-fn listed_exactly(base: &Draft) -> Vec<u32> {
-    changed(base, |draft| {
-        draft.tables[ELEMENTS].clear();
-        for (kind, index, (first_row, last_row)) in touching_things(base) {
-            draft.list(kind, index, first_row, last_row);
-        }
-        draft.sort_elements();
-    })
+pub fn listed_exactly(base: &Draft) -> Draft {
+    let mut draft = base.clone();
+    draft.tables[ELEMENTS].clear();
+    for (kind, index, (first_row, last_row)) in touching_things(base) {
+        draft.list(kind, index, first_row, last_row);
+    }
+    draft.sort_elements();
+    draft
 }
 
 /// An edge with one run more than the capacity holds.

@@ -1,9 +1,12 @@
 //! The slow check and the original compositor, asked by images of document 01's
 //! format. README.md says what each command answers. Compiled without
-//! `original`, it leaves out all that needs the original's text.
+//! `original`, it leaves out all that needs the original's text; without
+//! `product`, what calls the product's library.
 
 extern crate alloc;
 
+#[cfg(product)]
+mod bench;
 #[cfg(original)]
 mod cases;
 mod compare_check;
@@ -18,6 +21,8 @@ mod layout;
 mod limits;
 #[cfg(original)]
 mod paint;
+#[cfg(product)]
+mod sheets;
 mod slow_check;
 #[cfg(original)]
 mod stubs;
@@ -41,6 +46,10 @@ fn main() -> ExitCode {
         "paint" => paint::command(rest),
         #[cfg(original)]
         "vectors" => vectors::command(rest),
+        #[cfg(product)]
+        "bench" => bench::command(rest),
+        #[cfg(product)]
+        "bench-once" => bench::once(rest),
         "limits" => limits::command(rest),
         "compare-check" => compare_check::command(rest),
         other => return wrong_use(&format!("no command {other}")),

@@ -78,19 +78,66 @@ pub struct Sheet {
 /// Paints the whole sheet in bands of `band` rows, the last one maybe shorter.
 pub fn paint(words: &[u32], coloured: bool, band: usize) -> Result<Sheet, Unreadable> {
     let image = Image::read(words)?;
-    if let Some(endless) = image.corner_below_zero() {
-        return Err(endless);
-    }
-    text::use_width_ranges(&image.width_ranges);
-    let (view, plan) = (ImageView::of(&image), plan_of(&image));
-    let band = band.clamp(1, image.height.max(1));
-    let mut scratch = PaintScratch::heap_backed(&view, &plan, coloured, band);
+    let planned = Planned::of(&image)?;
+    let mut scratch = planned.scratch(coloured, band);
     let mut sheet = Sheet::empty(&image, coloured);
-    for first in (0..image.height).step_by(band) {
-        let rows = band.min(image.height - first);
-        sheet.take_band(&view, &plan, &mut scratch, first, rows);
+    for (first, rows) in planned.bands(band) {
+        sheet.take_band(&planned, &mut scratch, first, rows);
     }
     Ok(sheet)
+}
+
+/// An image as the original's painter is handed it: all that stands when the
+/// planning is done.
+pub struct Planned<'i> {
+    view: ImageView<'i>,
+    plan: RenderPlan<'static>,
+}
+
+impl<'i> Planned<'i> {
+    /// Glyphs have the widths of the image that was planned last.
+    pub fn of(image: &'i Image) -> Result<Planned<'i>, Unreadable> {
+        if let Some(endless) = image.corner_below_zero() {
+            return Err(endless);
+        }
+        text::use_width_ranges(&image.width_ranges);
+        Ok(Planned {
+            view: ImageView::of(image),
+            plan: plan_of(image),
+        })
+    }
+
+    /// What the original keeps from band to band.
+    pub fn scratch(&self, coloured: bool, band: usize) -> PaintScratch<'static> {
+        let band = band.clamp(1, self.plan.height().max(1));
+        PaintScratch::heap_backed(&self.view, &self.plan, coloured, band)
+    }
+
+    /// The bands of so many rows: the first row of each, and its rows.
+    pub fn bands(&self, band: usize) -> impl Iterator<Item = (usize, usize)> {
+        let height = self.plan.height();
+        let band = band.clamp(1, height.max(1));
+        let firsts = (0..height).step_by(band);
+        firsts.map(move |first| (first, band.min(height - first)))
+    }
+
+    /// The cells of the largest band.
+    pub fn room(&self, band: usize) -> usize {
+        self.plan.width() * band.min(self.plan.height())
+    }
+
+    /// The original's own call for a band: its canvas, emptied, and the painting.
+    pub fn paint_band<'c>(
+        &self,
+        scratch: &mut PaintScratch<'_>,
+        cells: &'c mut [Cell],
+        colours: Option<&'c mut [CellColor]>,
+        (first, rows): (usize, usize),
+    ) -> BandCanvas<'c> {
+        let mut canvas = BandCanvas::new(cells, colours, self.plan.width(), first, rows);
+        composite_band(&self.view, &self.plan, &mut canvas, scratch);
+        canvas
+    }
 }
 
 impl Sheet {
@@ -106,8 +153,7 @@ impl Sheet {
 
     fn take_band(
         &mut self,
-        view: &ImageView<'_>,
-        plan: &RenderPlan<'_>,
+        planned: &Planned<'_>,
         scratch: &mut PaintScratch<'_>,
         first: usize,
         rows: usize,
@@ -116,8 +162,7 @@ impl Sheet {
         let mut cells = vec![Cell::EMPTY; room];
         let mut colours = vec![CellColor::DEFAULT; room];
         let plane = self.coloured.then_some(&mut colours[..]);
-        let mut canvas = BandCanvas::new(&mut cells, plane, self.width, first, rows);
-        composite_band(view, plan, &mut canvas, scratch);
+        let canvas = planned.paint_band(scratch, &mut cells, plane, (first, rows));
         for row in 0..rows {
             self.cells.extend(canvas.row(row).iter().map(|c| c.word()));
             let colours = canvas.color_row(row).unwrap_or_default();

@@ -1,0 +1,339 @@
+//! `bench`: the product's check, linked as C would link it, timed beside the
+//! original's painting of the same sheet, and timed on tables that grow.
+
+use crate::engine::cell::Cell;
+use crate::image::Image;
+use crate::paint::Planned;
+use crate::sheets::{growths, sheets, Growth, Step};
+use crate::{image, in_the_repository, wrong_use};
+use std::fs;
+use std::hint::black_box;
+use std::io::{self, Write as _};
+use std::path::{Path, PathBuf};
+use std::process::{Command, ExitCode, Stdio};
+use std::time::Duration;
+
+/// Where the sheets are put as files, to be looked at or counted on.
+const FOLDER: &str = "target/oracle/sheets";
+
+const DEFAULT_ROUNDS: u32 = 40;
+
+/// One timing of a side takes at least so long: short calls are repeated.
+const SAMPLE: Duration = Duration::from_micros(1_000);
+
+/// The rows of a band on the handheld.
+const HANDHELD_ROWS: usize = 8;
+
+/// The original's painting of a whole sheet is one band of all its rows.
+const ALL_ROWS: usize = usize::MAX;
+
+// ---- The product's check -------------------------------------------------
+
+extern "C" {
+    /// A slice crosses as a pointer and a length.
+    fn pivotdawn_check(
+        image: *const u32,
+        words: usize,
+        answer: *mut u64,
+        answer_words: usize,
+    ) -> u32;
+}
+
+/// Code, place and run count.
+fn product_check(words: &[u32]) -> (u32, u64, u64) {
+    let mut answer = [0; 2];
+    // SAFETY: both slices are lent for the call alone, with their own lengths;
+    // the callee is proved to stay inside them.
+    let code = unsafe {
+        pivotdawn_check(
+            words.as_ptr(),
+            words.len(),
+            answer.as_mut_ptr(),
+            answer.len(),
+        )
+    };
+    (code, answer[0], answer[1])
+}
+
+// ---- The sides -----------------------------------------------------------
+
+/// Whose work is timed on a sheet.
+#[derive(Clone, Copy)]
+enum Side {
+    /// The product's check of the image.
+    Check,
+    /// The original's painting in bands of so many rows.
+    Paint(usize),
+}
+
+/// In the order of the columns.
+const SIDES: [(&str, Side); 3] = [
+    ("check", Side::Check),
+    ("paint-whole", Side::Paint(ALL_ROWS)),
+    ("paint-bands", Side::Paint(HANDHELD_ROWS)),
+];
+
+type Work<'a> = Box<dyn FnMut() + 'a>;
+
+fn work_of<'a>(side: Side, words: &'a [u32], planned: &'a Planned<'a>) -> Work<'a> {
+    match side {
+        Side::Check => check_work(words),
+        Side::Paint(band) => Box::new(paint_work(planned, band)),
+    }
+}
+
+fn check_work(words: &[u32]) -> Work<'_> {
+    Box::new(move || {
+        black_box(product_check(black_box(words)));
+    })
+}
+
+/// Every band of the sheet, plain. The canvas is emptied for each band, as the
+/// original does; its buffer and the scratch are made before the time begins.
+fn paint_work<'a>(planned: &'a Planned<'a>, band: usize) -> impl FnMut() + 'a {
+    let mut scratch = planned.scratch(false, band);
+    let mut cells = vec![Cell::EMPTY; planned.room(band)];
+    move || {
+        for rows in planned.bands(band) {
+            let cells = black_box(&mut cells[..]);
+            black_box(planned.paint_band(&mut scratch, cells, None, rows));
+        }
+    }
+}
+
+// ---- Timing --------------------------------------------------------------
+
+extern "C" {
+    fn clock_gettime(clock: i32, seconds_and_nanoseconds: *mut [i64; 2]) -> i32;
+}
+
+/// The processor time of this thread: what else the machine does counts less
+/// than by a clock on the wall.
+fn processor_time() -> Duration {
+    const THREAD_CPUTIME: i32 = 3;
+    let mut time = [0; 2];
+    // SAFETY: the C library's own function, and room for what it writes on a
+    // Linux of 64 bits.
+    let answer = unsafe { clock_gettime(THREAD_CPUTIME, &mut time) };
+    assert_eq!(answer, 0, "no processor time to be had");
+    Duration::new(time[0] as u64, time[1] as u32)
+}
+
+/// Seconds for one call of each work: the least of the rounds. Each round times
+/// every work in turn, so that a busy moment strikes all alike.
+fn least_seconds(works: &mut [Work<'_>], rounds: u32) -> Vec<f64> {
+    let repeats: Vec<u32> = works.iter_mut().map(repeats_of).collect();
+    let mut least = vec![f64::INFINITY; works.len()];
+    for _ in 0..rounds {
+        for (nth, work) in works.iter_mut().enumerate() {
+            let took = time_of(work, repeats[nth]).as_secs_f64();
+            least[nth] = least[nth].min(took / f64::from(repeats[nth]));
+        }
+    }
+    least
+}
+
+fn time_of(work: &mut Work<'_>, repeats: u32) -> Duration {
+    let began = processor_time();
+    for _ in 0..repeats {
+        work();
+    }
+    processor_time() - began
+}
+
+/// How many calls make a sample. The calls that find it out warm the caches.
+fn repeats_of(work: &mut Work<'_>) -> u32 {
+    let mut repeats = 1;
+    while time_of(work, repeats) < SAMPLE {
+        repeats *= 2;
+    }
+    repeats
+}
+
+// ---- Counting instructions -----------------------------------------------
+
+/// Collecting begins and ends with this function: valgrind is told its name.
+#[no_mangle]
+#[inline(never)]
+pub fn pivotdawn_counted(work: &mut dyn FnMut()) {
+    work();
+}
+
+/// `bench-once SIDE FILE`: one call of a side on an image, for valgrind. A call
+/// before it does what only a first call has to do.
+pub fn once(options: &[String]) -> io::Result<ExitCode> {
+    let [name, file] = options else {
+        return Ok(wrong_use("bench-once SIDE FILE"));
+    };
+    let Some((_, side)) = SIDES.iter().find(|(known, _)| known == name) else {
+        return Ok(wrong_use("bench-once: no such side"));
+    };
+    let words = image::words_of(&fs::read(file)?).unwrap_or_default();
+    with_plan(&words, |planned| {
+        let mut work = work_of(*side, &words, planned);
+        work();
+        pivotdawn_counted(&mut work);
+    });
+    Ok(ExitCode::SUCCESS)
+}
+
+fn valgrind_is_at_hand() -> bool {
+    let asked = Command::new("valgrind")
+        .arg("--version")
+        .stdout(Stdio::null())
+        .status();
+    asked.is_ok_and(|status| status.success())
+}
+
+/// Instructions of one call; none where valgrind does not tell.
+fn instructions(side: &str, file: &Path) -> Option<u64> {
+    let counts = file.with_extension("counts");
+    let mut out_file = std::ffi::OsString::from("--callgrind-out-file=");
+    out_file.push(&counts);
+    let ended = Command::new("valgrind")
+        .args(["--tool=callgrind", "--collect-atstart=no"])
+        .arg("--toggle-collect=pivotdawn_counted")
+        .arg(out_file)
+        .arg(std::env::current_exe().ok()?)
+        .args(["bench-once", side])
+        .arg(file)
+        .stderr(Stdio::null())
+        .status();
+    if !ended.ok()?.success() {
+        return None;
+    }
+    let text = fs::read_to_string(&counts).ok()?;
+    let line = text.lines().find(|line| line.starts_with("totals:"))?;
+    line.split_whitespace().nth(1)?.parse().ok()
+}
+
+// ---- The command ---------------------------------------------------------
+
+pub fn command(options: &[String]) -> io::Result<ExitCode> {
+    let rounds = match options {
+        [] => Some(DEFAULT_ROUNDS),
+        [rounds] => rounds.parse().ok().filter(|&rounds| rounds > 0),
+        _ => None,
+    };
+    let Some(rounds) = rounds else {
+        return Ok(wrong_use("bench [ROUNDS], a number above 0"));
+    };
+    bench_sheets(rounds)?;
+    bench_growth(rounds)?;
+    Ok(ExitCode::SUCCESS)
+}
+
+/// Calls with the image as the original is handed it. The sheets of `bench` can
+/// all be read.
+fn with_plan(words: &[u32], call: impl FnOnce(&Planned<'_>)) {
+    let image = Image::read(words).unwrap_or_else(|why| panic!("a sheet of bench: {why}"));
+    let planned = Planned::of(&image).unwrap_or_else(|why| panic!("a sheet of bench: {why}"));
+    call(&planned);
+}
+
+fn assert_accepted(what: &str, words: &[u32]) {
+    let (code, place, _) = product_check(words);
+    assert_eq!((code, place), (0, 0), "{what} is refused");
+}
+
+fn write_sheet(name: &str, words: &[u32]) -> io::Result<PathBuf> {
+    let folder = in_the_repository(FOLDER);
+    fs::create_dir_all(&folder)?;
+    let file = folder.join(name).with_extension("img");
+    let bytes: Vec<u8> = words.iter().flat_map(|word| word.to_be_bytes()).collect();
+    fs::write(&file, bytes)?;
+    Ok(file)
+}
+
+fn bench_sheets(rounds: u32) -> io::Result<()> {
+    let mut out = io::stdout();
+    let counting = valgrind_is_at_hand();
+    writeln!(
+        out,
+        "The check against the original's painting of the sheet, plain, planning left out:\n\
+         processor time on {}, the least of {rounds} rounds, and instructions.\n",
+        std::env::consts::ARCH
+    )?;
+    let [whole, bands] = ["/ whole", "/ bands of 8"];
+    writeln!(
+        out,
+        "{:<12} {:>6} {:>10} {whole:>8} {bands:>12} {:>13} {whole:>8} {bands:>12}",
+        "sheet", "words", "check, us", "instructions"
+    )?;
+    for sheet in sheets() {
+        assert_accepted(sheet.name, &sheet.words);
+        let file = write_sheet(sheet.name, &sheet.words)?;
+        let mut seconds = Vec::new();
+        with_plan(&sheet.words, |planned| {
+            let mut works = SIDES.map(|(_, side)| work_of(side, &sheet.words, planned));
+            seconds = least_seconds(&mut works, rounds);
+        });
+        write!(out, "{:<12} {:>6} ", sheet.name, sheet.words.len())?;
+        write!(out, "{:>10.2} ", seconds[0] * 1e6)?;
+        let [whole, bands] = [1, 2].map(|nth| seconds[0] / seconds[nth]);
+        write!(out, "{whole:>8.4} {bands:>12.4} ")?;
+        let counts = SIDES.map(|(side, _)| counting.then(|| instructions(side, &file))?);
+        writeln!(out, "{}", counted(counts))?;
+    }
+    if !counting {
+        writeln!(
+            out,
+            "\nvalgrind is not at hand; no instructions were counted"
+        )?;
+    }
+    Ok(())
+}
+
+/// The check's instructions, and their share of each painting's.
+fn counted(counts: [Option<u64>; 3]) -> String {
+    let [Some(check), Some(whole), Some(bands)] = counts else {
+        return format!("{:>13} {:>8} {:>12}", "-", "-", "-");
+    };
+    let share = |of: u64| check as f64 / of as f64;
+    format!("{check:>13} {:>8.4} {:>12.4}", share(whole), share(bands))
+}
+
+// ---- Growth --------------------------------------------------------------
+
+fn bench_growth(rounds: u32) -> io::Result<()> {
+    let mut out = io::stdout();
+    writeln!(
+        out,
+        "\nThe check's time for a record as a table grows, the sheet without them taken off:\n\
+         at the least count in nanoseconds, then as a multiple of that; 1 is linear.\n"
+    )?;
+    for growth in growths() {
+        let times = growth_times(&growth, rounds);
+        let [(least, first), larger @ ..] = &times[..] else {
+            continue;
+        };
+        write!(out, "{:<21} {least:>5}: {first:>8.2} ns", growth.what)?;
+        for (count, each) in larger {
+            write!(out, "  {count:>5}: {:>5.2}", each / first)?;
+        }
+        writeln!(out)?;
+    }
+    Ok(())
+}
+
+/// Nanoseconds for a record, for each count.
+fn growth_times(growth: &Growth, rounds: u32) -> Vec<(u32, f64)> {
+    let mut works = Vec::new();
+    for step in &growth.steps {
+        for words in [&step.with, &step.without] {
+            assert_accepted(&format!("{} {}", step.count, growth.what), words);
+            works.push(check_work(words));
+        }
+    }
+    let seconds = least_seconds(&mut works, rounds);
+    let of_step = |(step, seconds): (&Step, &[f64])| {
+        let nanoseconds = (seconds[0] - seconds[1]) * 1e9;
+        (step.count, nanoseconds / f64::from(step.count))
+    };
+    growth
+        .steps
+        .iter()
+        .zip(seconds.chunks(2))
+        .map(of_step)
+        .collect()
+}
