@@ -16,20 +16,10 @@ pub fn record(kind: RecordKind) {
 }
 
 pub fn header_field(field: usize) {
-    match field {
-        0 => say::text(b"width"),
-        1 => say::text(b"height"),
-        2 => say::text(b"run capacity"),
-        3 => say::text(b"flags"),
-        4 => say::text(b"node count"),
-        5 => say::text(b"edge count"),
-        6 => say::text(b"subgraph count"),
-        7 => say::text(b"placed label count"),
-        8 => say::text(b"element count"),
-        9 => say::text(b"point count"),
-        10 => say::text(b"glyph count"),
-        _ => say::text(b"width range count"),
-    }
+    say::nth(
+        b"width|height|run capacity|flags|node count|edge count|subgraph count|placed label count|element count|point count|glyph count|width range count",
+        field,
+    );
 }
 
 pub fn header_rule(field: usize) {
@@ -43,87 +33,25 @@ pub fn header_rule(field: usize) {
     }
 }
 
-fn node_field(field: usize) {
-    match field {
-        0 => say::text(b"x"),
-        1 => say::text(b"y"),
-        2 => say::text(b"width"),
-        3 => say::text(b"height"),
-        4 => say::text(b"label start"),
-        5 => say::text(b"label count"),
-        6 => say::text(b"flags"),
-        7 => say::text(b"loop x"),
-        _ => say::text(b"loop y"),
-    }
-}
-
-fn edge_field(field: usize) {
-    match field {
-        0 => say::text(b"from x"),
-        1 => say::text(b"from y"),
-        2 => say::text(b"to x"),
-        3 => say::text(b"to y"),
-        4 => say::text(b"flags"),
-        5 => say::text(b"a"),
-        6 => say::text(b"b"),
-        7 => say::text(b"c"),
-        8 => say::text(b"label start"),
-        9 => say::text(b"label count"),
-        10 => say::text(b"colour"),
-        _ => say::text(b"label colour"),
-    }
-}
-
-fn subgraph_field(field: usize) {
-    match field {
-        7 => say::text(b"colour"),
-        _ => node_field(field),
-    }
-}
-
-fn placed_label_field(field: usize) {
-    match field {
-        0 => say::text(b"edge"),
-        1 => say::text(b"x"),
-        2 => say::text(b"y"),
-        _ => say::text(b"flags"),
-    }
-}
-
-fn element_field(field: usize) {
-    match field {
-        0 => say::text(b"kind"),
-        1 => say::text(b"index"),
-        2 => say::text(b"first row"),
-        _ => say::text(b"last row"),
-    }
-}
-
-fn point_field(field: usize) {
-    match field {
-        0 => say::text(b"x"),
-        _ => say::text(b"y"),
-    }
-}
-
-fn range_field(field: usize) {
-    match field {
-        0 => say::text(b"first"),
-        1 => say::text(b"last"),
-        _ => say::text(b"width"),
-    }
-}
-
 pub fn field(kind: RecordKind, field: usize) {
     match kind {
-        RecordKind::Node => node_field(field),
-        RecordKind::Edge => edge_field(field),
-        RecordKind::Subgraph => subgraph_field(field),
-        RecordKind::PlacedLabel => placed_label_field(field),
-        RecordKind::Element => element_field(field),
-        RecordKind::Point => point_field(field),
+        RecordKind::Node => say::nth(
+            b"x|y|width|height|label start|label count|flags|loop x|loop y",
+            field,
+        ),
+        RecordKind::Edge => say::nth(
+            b"from x|from y|to x|to y|flags|a|b|c|label start|label count|colour|label colour",
+            field,
+        ),
+        RecordKind::Subgraph => say::nth(
+            b"x|y|width|height|label start|label count|flags|colour",
+            field,
+        ),
+        RecordKind::PlacedLabel => say::nth(b"edge|x|y|flags", field),
+        RecordKind::Element => say::nth(b"kind|index|first row|last row", field),
+        RecordKind::Point => say::nth(b"x|y", field),
         RecordKind::Glyph => say::text(b"value"),
-        RecordKind::Range => range_field(field),
+        RecordKind::Range => say::nth(b"first|last|width", field),
     }
 }
 
