@@ -185,6 +185,11 @@ fn valgrind_is_at_hand() -> bool {
     asked.is_ok_and(|status| status.success())
 }
 
+/// Has the C library fill and copy by loops: an instruction of x86-64 that does
+/// it by itself would be counted once for each byte.
+const NO_REPEATED_BYTES: &str = "glibc.cpu.x86_rep_stosb_threshold=1000000000:\
+     glibc.cpu.x86_rep_movsb_threshold=1000000000";
+
 /// Instructions of one call; none where valgrind does not tell.
 fn instructions(side: &str, file: &Path) -> Option<u64> {
     let counts = file.with_extension("counts");
@@ -197,6 +202,7 @@ fn instructions(side: &str, file: &Path) -> Option<u64> {
         .arg(std::env::current_exe().ok()?)
         .args(["bench-once", side])
         .arg(file)
+        .env("GLIBC_TUNABLES", NO_REPEATED_BYTES)
         .stderr(Stdio::null())
         .status();
     if !ended.ok()?.success() {

@@ -237,10 +237,10 @@ fn short_legs() -> Draft {
 /// One edge through so many points: in turn a cell down and a cell across, to
 /// the right and back again.
 fn staircase(path: u32, points: u32) -> Draft {
-    let mut draft = Draft::blank_sheet(1_000, 4_200);
+    let mut draft = Draft::blank_sheet(64, 4_200);
     let place = |nth: u32| {
-        let across = (nth + 1) / 2 % 1_800;
-        [across.min(1_800 - across), 1 + nth / 2]
+        let across = (nth + 1) / 2 % 120;
+        [across.min(120 - across), 1 + nth / 2]
     };
     let [first, count] = add_points(&mut draft, (0..points).map(place));
     let [x, y] = place(points);
