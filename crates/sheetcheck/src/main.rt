@@ -1,15 +1,25 @@
 // Reads a sheet image from standard input and says whether it is accepted, or what is wrong and where, in words that a planner's author can act on.
 ghost use Prim.Native.Nat.{_≤_, _<_};
-ghost use Rattle.image.specs.SheetImage.{AllSmall};
+ghost use Rattle.layout.specs.Small.{AllSmall};
 ghost use Rattle.sheetcheck.specs.Listed.{FoundBelow};
-use fields::RecordKind;
 use ground::Found;
 use image::ElementKind;
-use image::Tables;
-use image::word;
+use layout::ELEMENT_FIRST_ROW;
+use layout::ELEMENT_INDEX;
+use layout::ELEMENT_KIND;
+use layout::ELEMENT_LAST_ROW;
+use layout::FieldName;
+use layout::HEADER_HEIGHT;
+use layout::HEADER_RUNS;
+use layout::HEADER_WIDTH;
+use layout::MAX_THINGS;
+use layout::RANGE_FIRST;
+use layout::RANGE_LAST;
+use layout::RecordKind;
+use layout::Tables;
+use layout::word;
 use libc::STDIN_FILENO;
 use rows::Rows;
-use spot::Spot;
 
 mod names;
 mod say;
@@ -18,8 +28,8 @@ mod say;
 fn explain_field(image: &[u32], ts: Tables, place: usize)
     requires { ⌜ AllSmall ts ⌝ }
 {
-    let at = spot::spot_of(ts, place);
-    let Spot::Record { kind, index, field } = at else {
+    let at = layout::field_at(ts, place);
+    let FieldName::Record { kind, index, field } = at else {
         return;
     };
     names::record(kind);
@@ -56,8 +66,8 @@ fn explain_length(image: &[u32], place: usize) {
 fn record_at(ts: Tables, place: usize)
     requires { ⌜ AllSmall ts ⌝ }
 {
-    let at = spot::spot_of(ts, place);
-    let Spot::Record { kind, index, field } = at else {
+    let at = layout::field_at(ts, place);
+    let FieldName::Record { kind, index, field } = at else {
         return;
     };
     names::record(kind);
@@ -78,8 +88,8 @@ fn explain_range(image: &[u32], ts: Tables, place: usize)
     requires { ⌜ AllSmall ts ⌝ }
 {
     record_at(ts, place);
-    say::count(b": from ", next_word(image, place, 0));
-    say::count(b" to ", next_word(image, place, 1));
+    say::count(b": from ", next_word(image, place, RANGE_FIRST));
+    say::count(b" to ", next_word(image, place, RANGE_LAST));
     say::text(
         b"; a range has its first at most its last, lies above the range before it, and holds none of 32, 34, 91 and 93\n",
     );
@@ -98,8 +108,8 @@ fn explain_twice(image: &[u32], ts: Tables, place: usize)
     requires { ⌜ AllSmall ts ⌝ }
 {
     record_at(ts, place);
-    say::count(b": kind ", next_word(image, place, 0));
-    say::count(b", index ", next_word(image, place, 1));
+    say::count(b": kind ", next_word(image, place, ELEMENT_KIND));
+    say::count(b", index ", next_word(image, place, ELEMENT_INDEX));
     say::text(b", which an earlier element lists already; each thing is listed once\n");
 }
 
@@ -107,8 +117,8 @@ fn explain_order(image: &[u32], ts: Tables, place: usize)
     requires { ⌜ AllSmall ts ⌝ }
 {
     record_at(ts, place);
-    say::count(b": rows ", next_word(image, place, 2));
-    say::count(b" to ", next_word(image, place, 3));
+    say::count(b": rows ", next_word(image, place, ELEMENT_FIRST_ROW));
+    say::count(b" to ", next_word(image, place, ELEMENT_LAST_ROW));
     say::text(
         b"; the first row is at most the last, and not below the first row of the element before\n",
     );
@@ -119,9 +129,8 @@ fn lists(image: &[u32], ts: Tables, k: usize, kind: u32, index: usize) -> bool
     requires { ⌜ AllSmall ts × (k < 4294967296) ⌝ }
 {
     let elements = ts.elements;
-    let at = elements.at(k);
-    if word(image, at) == kind {
-        ground::number(word(image, at + 1)) == index
+    if layout::field(image, elements, k, ELEMENT_KIND) == kind {
+        ground::number(layout::field(image, elements, k, ELEMENT_INDEX)) == index
     } else {
         false
     }
@@ -174,30 +183,27 @@ fn say_touched(touched: Rows) {
     say::count(b" to ", last);
 }
 
-fn explain_thing(image: &[u32], ts: Tables, kind: ElementKind, number: u32, index: usize)
+fn explain_thing(image: &[u32], ts: Tables, kind: ElementKind, index: usize)
     requires { ⌜ AllSmall ts ⌝ }
 {
-    let ranges = ts.ranges;
-    if index < 1024 {
-        if ranges.count <= 1024 {
-            say_touched(refusals::listing::touched_by(kind, image, ts, index));
-        }
+    if index < ground::number(MAX_THINGS) {
+        say_touched(listing::touched_rows(kind, image, ts, index));
     }
-    say_listing(image, ts, number, index);
+    say_listing(image, ts, image::element_kind_number(kind), index);
 }
 
 fn explain_listing(image: &[u32], ts: Tables, place: usize)
     requires { ⌜ AllSmall ts ⌝ }
 {
     record_at(ts, place);
-    let at = spot::spot_of(ts, place);
-    let Spot::Record { kind, index, field } = at else {
+    let at = layout::field_at(ts, place);
+    let FieldName::Record { kind, index, field } = at else {
         return;
     };
     match kind {
-        RecordKind::Node => explain_thing(image, ts, ElementKind::Node, 0, index),
-        RecordKind::Edge => explain_thing(image, ts, ElementKind::Edge, 1, index),
-        _ => explain_thing(image, ts, ElementKind::Subgraph, 2, index),
+        RecordKind::Node => explain_thing(image, ts, ElementKind::Node, index),
+        RecordKind::Edge => explain_thing(image, ts, ElementKind::Edge, index),
+        _ => explain_thing(image, ts, ElementKind::Subgraph, index),
     }
 }
 
@@ -206,18 +212,18 @@ fn explain_runs(image: &[u32], ts: Tables)
 {
     say::count(
         b"header, run capacity: holds ",
-        ground::number(word(image, 2)),
+        ground::number(word(image, HEADER_RUNS)),
     );
     let edges = ts.edges;
-    if edges.count <= 1024 {
-        say::count(b"; the image has ", refusals::listing::run_count(image, ts));
+    if edges.count <= ground::number(MAX_THINGS) {
+        say::count(b"; the image has ", listing::run_count(image, ts));
         say::text(b" runs on rows of the sheet");
     }
     say::text(b"\n");
 }
 
 fn explain_tables(image: &[u32], code: u32, place: usize) {
-    let ts = Tables::read(image);
+    let ts = layout::tables_of(image);
     match code {
         4 => explain_field(image, ts, place),
         5 => explain_range(image, ts, place),
@@ -241,7 +247,7 @@ fn explain(image: &[u32], code: u32, place: usize) {
 fn report(image: &[u32]) {
     let answer = refusals::check(image);
     if answer.code == 0 {
-        say::accepted(word(image, 0), word(image, 1), answer.runs);
+        say::accepted(word(image, HEADER_WIDTH), word(image, HEADER_HEIGHT), answer.runs);
     } else {
         say::refused(answer.code, answer.place);
         explain(image, answer.code, answer.place);

@@ -1,6 +1,6 @@
 // The names of records and their fields, and what each field may hold.
 use crate::say;
-use fields::RecordKind;
+use layout::RecordKind;
 
 pub fn record(kind: RecordKind) {
     match kind {

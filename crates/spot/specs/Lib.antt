@@ -1,2 +1,0 @@
--- Which word of which record stands at a place.
-pub mod Spots
