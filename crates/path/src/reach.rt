@@ -21,8 +21,8 @@ fn direct_reach(window: Window, e: Edge) -> Reach
 {
     let axis = e.flow_axis;
     match axis {
-        FlowAxis::Y => y_flow::touch::direct_reach(touch::no_reach(), window, e),
-        FlowAxis::X => x_flow::touch::direct_reach(touch::no_reach(), window, e),
+        FlowAxis::Y => y_reach::direct_reach(touch::no_reach(), window, e),
+        FlowAxis::X => x_reach::direct_reach(touch::no_reach(), window, e),
     }
 }
 
@@ -31,8 +31,8 @@ fn corner_reach(window: Window, e: Edge, bend: u32) -> Reach
 {
     let axis = e.flow_axis;
     match axis {
-        FlowAxis::Y => y_flow::touch::corner_reach(touch::no_reach(), window, e, bend),
-        FlowAxis::X => x_flow::touch::corner_reach(touch::no_reach(), window, e, bend),
+        FlowAxis::Y => y_reach::corner_reach(touch::no_reach(), window, e, bend),
+        FlowAxis::X => x_reach::corner_reach(touch::no_reach(), window, e, bend),
     }
 }
 
@@ -41,8 +41,8 @@ fn side_reach(window: Window, e: Edge, channel: u32, start: u32, end: u32) -> Re
 {
     let axis = e.flow_axis;
     match axis {
-        FlowAxis::Y => y_flow::touch::side_reach(touch::no_reach(), window, e, channel, start, end),
-        FlowAxis::X => x_flow::touch::side_reach(touch::no_reach(), window, e, channel, start, end),
+        FlowAxis::Y => y_reach::side_reach(touch::no_reach(), window, e, channel, start, end),
+        FlowAxis::X => x_reach::side_reach(touch::no_reach(), window, e, channel, start, end),
     }
 }
 
@@ -53,8 +53,8 @@ fn leg_reach(reach: Reach, window: Window, e: Edge, offset: u32, leg: Leg) -> Re
 {
     let axis = e.flow_axis;
     match axis {
-        FlowAxis::Y => y_flow::touch::leg_reach(reach, window, e, offset, leg),
-        FlowAxis::X => x_flow::touch::leg_reach(reach, window, e, offset, leg),
+        FlowAxis::Y => y_reach::leg_reach(reach, window, e, offset, leg),
+        FlowAxis::X => x_reach::leg_reach(reach, window, e, offset, leg),
     }
 }
 

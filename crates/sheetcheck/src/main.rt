@@ -247,7 +247,11 @@ fn explain(image: &[u32], code: u32, place: usize) {
 fn report(image: &[u32]) {
     let answer = refusals::check(image);
     if answer.code == 0 {
-        say::accepted(word(image, HEADER_WIDTH), word(image, HEADER_HEIGHT), answer.runs);
+        say::accepted(
+            word(image, HEADER_WIDTH),
+            word(image, HEADER_HEIGHT),
+            answer.runs,
+        );
     } else {
         say::refused(answer.code, answer.place);
         explain(image, answer.code, answer.place);

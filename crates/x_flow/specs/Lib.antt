@@ -1,3 +1,2 @@
 -- What document 01 says of X flow.
 pub mod XFlow
-pub mod Reach

@@ -16,8 +16,6 @@ use flow::Leg;
 use flow::Piece;
 use image::Edge;
 
-pub mod touch;
-
 // s is +1 if to x ≥ from x, else −1.
 pub fn sign(e: Edge) -> bool
     ensures { λ r. ⌜ r ≡ signX e ⌝ }

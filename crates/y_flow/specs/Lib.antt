@@ -1,3 +1,2 @@
 -- What document 01 says of Y flow.
 pub mod YFlow
-pub mod Reach

@@ -14,8 +14,6 @@ use flow::Leg;
 use flow::Piece;
 use image::Edge;
 
-pub mod touch;
-
 // "Let s be +1 if to y ≥ from y, else −1."
 pub fn sign(e: Edge) -> bool
     ensures { λ r. ⌜ r ≡ signY e ⌝ }

@@ -1,0 +1,2 @@
+-- How the code finds what the pieces of an X flow reach.
+pub mod Reach

@@ -1,0 +1,148 @@
+// What the pieces of a Y flow reach in a window of rows. Their arms and arrows do not matter for it, so that numbers are enough.
+ghost use mathlib.Core.Path.{_≡_};
+ghost use Prim.Native.Nat.{_+_, _≤_, _<_};
+ghost use Rattle.y_flow.specs.YFlow.{directY, cornerY, sideY, legY};
+ghost use Rattle.y_reach.specs.Reach.{trunkRows, crossingReach, bentReach, channelReach};
+ghost use Rattle.flow.specs.Bounds.{bound, SmallLeg};
+ghost use Rattle.flow.specs.Reach.{joinReach, pieceReach, reachOf};
+use flow::Coordinate;
+use flow::Leg;
+use flow::Reach;
+use image::Edge;
+use rows::Rows;
+use rows::Window;
+
+// The rows of a trunk, where there is one.
+fn trunk_rows(window: Window, has_trunk: bool, y1: usize, bend: usize) -> Rows
+    ensures { λ r. ⌜ r ≡ trunkRows window «has_trunk» y1 bend ⌝ }
+{
+    if has_trunk {
+        flow::touch::vertical_rows(window, y1, bend)
+    } else {
+        Rows::None
+    }
+}
+
+// What is reached with a crossing: its row, and its run.
+fn crossing_reach(reach: Reach, window: Window, row: usize, x1: usize, x2: usize) -> Reach
+    requires { ⌜ (x1 < bound) × (x2 < bound) × (reach .runs < 0x4000000000000000) ⌝ }
+    ensures { λ r. ⌜ (r ≡ joinReach reach (crossingReach window row x1 x2)) × (r .runs ≤ reach .runs + 1) ⌝ }
+{
+    let rows = reach.rows;
+    Reach {
+        rows: rows.join(flow::touch::row_if(window, x1 != x2, row)),
+        runs: reach.runs + flow::touch::piece_runs(window, y_flow::cross_run(row, x1, x2)),
+    }
+}
+
+// What is reached with a way that bends once.
+fn bent_reach(
+    reach: Reach,
+    window: Window,
+    has_trunk: bool,
+    strokes_start: bool,
+    bend: usize,
+    x1: usize,
+    y1: usize,
+    x2: usize,
+    y2: usize,
+) -> Reach
+    requires { ⌜ (x1 < bound) × (x2 < bound) × (reach .runs < 0x4000000000000000) ⌝ }
+    ensures { λ r. ⌜ (r ≡ bentReach reach window «has_trunk» «strokes_start» bend x1 y1 x2 y2) × (r .runs ≤ reach .runs + 1) ⌝ }
+{
+    let trunk = flow::touch::with_rows(reach, trunk_rows(window, has_trunk, y1, bend));
+    let start = flow::touch::with_rows(trunk, flow::touch::row_if(window, strokes_start, y1));
+    let crossed = crossing_reach(start, window, bend, x1, x2);
+    flow::touch::with_rows(crossed, flow::touch::vertical_rows(window, bend, y2))
+}
+
+// What is reached with a Direct edge or a Spline.
+pub fn direct_reach(reach: Reach, window: Window, e: Edge) -> Reach
+    ensures { λ r. ⌜ (r ≡ joinReach reach (pieceReach window (directY e))) × (r .runs ≡ reach .runs) ⌝ }
+{
+    let from = ground::number(e.from_y);
+    let to = ground::number(e.to_y);
+    flow::touch::with_rows(reach, flow::touch::vertical_rows(window, from, to))
+}
+
+// What is reached with a Corner.
+pub fn corner_reach(reach: Reach, window: Window, e: Edge, bend: u32) -> Reach
+    requires { ⌜ reach .runs < 0x4000000000000000 ⌝ }
+    ensures { λ r. ⌜ (r ≡ joinReach reach (reachOf window (cornerY e bend))) × (r .runs ≤ reach .runs + 1) ⌝ }
+{
+    let row = ground::number(bend);
+    let x1 = ground::number(e.from_x);
+    let y1 = ground::number(e.from_y);
+    let x2 = ground::number(e.to_x);
+    let y2 = ground::number(e.to_y);
+    bent_reach(reach, window, true, false, row, x1, y1, x2, y2)
+}
+
+// What is reached with two crossings, the channel between them, and a tail.
+fn channel_reach(
+    reach: Reach,
+    window: Window,
+    channel: usize,
+    start: usize,
+    end: usize,
+    x1: usize,
+    x2: usize,
+    y2: usize,
+) -> Reach
+    requires { ⌜ (channel < bound) × (x1 < bound) × (x2 < bound) × (reach .runs < 0x2000000000000000) ⌝ }
+    ensures { λ r. ⌜ (r ≡ channelReach reach window channel start end x1 x2 y2) × (r .runs ≤ reach .runs + 2) ⌝ }
+{
+    let out = crossing_reach(reach, window, start, x1, channel);
+    let side = flow::touch::with_rows(out, flow::touch::vertical_rows(window, start, end));
+    let back = crossing_reach(side, window, end, channel, x2);
+    flow::touch::with_rows(back, flow::touch::vertical_rows(window, end, y2))
+}
+
+// What is reached with a SideChannel.
+pub fn side_reach(
+    reach: Reach,
+    window: Window,
+    e: Edge,
+    channel: u32,
+    start: u32,
+    end: u32,
+) -> Reach
+    requires { ⌜ reach .runs < 0x2000000000000000 ⌝ }
+    ensures { λ r. ⌜ (r ≡ joinReach reach (reachOf window (sideY e channel start end))) × (r .runs ≤ reach .runs + 2) ⌝ }
+{
+    let column = ground::number(channel);
+    let first = ground::number(start);
+    let last = ground::number(end);
+    let x1 = ground::number(e.from_x);
+    let x2 = ground::number(e.to_x);
+    let y2 = ground::number(e.to_y);
+    channel_reach(reach, window, column, first, last, x1, x2, y2)
+}
+
+// What is reached with a leg of a MultiSegment.
+pub fn leg_reach(reach: Reach, window: Window, e: Edge, offset: u32, leg: Leg) -> Reach
+    requires { ⌜ SmallLeg leg × (reach .runs < 0x4000000000000000) ⌝ }
+    ensures { λ r. ⌜ (r ≡ joinReach reach (reachOf window (legY e offset leg))) × (r .runs ≤ reach .runs + 1) ⌝ }
+{
+    let first = leg.first;
+    if leg.x1 == leg.x2 {
+        let start = flow::touch::with_rows(reach, flow::touch::row_if(window, !first, leg.y1));
+        return flow::touch::with_rows(start, flow::touch::vertical_rows(window, leg.y1, leg.y2));
+    }
+    let corner = y_flow::corner_row(e, offset, leg);
+    let Coordinate::At(bend) = corner else {
+        return reach;
+    };
+    let has_trunk = flow::and(first, 0 < offset);
+    bent_reach(
+        reach,
+        window,
+        has_trunk,
+        !first,
+        bend,
+        leg.x1,
+        leg.y1,
+        leg.x2,
+        leg.y2,
+    )
+}
