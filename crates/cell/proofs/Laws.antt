@@ -46,34 +46,6 @@ marked-rest kind dir dashed Continuation h = absurd (miss no-text 2 tt h)
 marked-rest kind dir dashed (Stroke arms) h = refl
 marked-rest kind dir dashed (Marker k d x) h = refl
 
--- a stroke on text, on a continuation and on a marker: each is kept without a Double arm, and replaced with one
-
-module _ (p : Parts) (new : Arms) where
-  pub text-kept : (ch : ℕ) → p ≡ Text ch → hasDouble new ≡ false → Text ch ≡ stroked p new
-  unfolding stroked
-  text-kept ch e h = rw (e, h)
-
-  pub text-replaced : (ch : ℕ) → p ≡ Text ch → hasDouble new ≡ true → Stroke new ≡ stroked p new
-  unfolding stroked
-  text-replaced ch e h = rw (e, h)
-
-  pub continuation-kept : p ≡ Continuation → hasDouble new ≡ false → p ≡ stroked p new
-  unfolding stroked
-  continuation-kept e h = rw (e, h)
-
-  pub continuation-replaced : p ≡ Continuation → hasDouble new ≡ true → Stroke new ≡ stroked p new
-  unfolding stroked
-  continuation-replaced e h = rw (e, h)
-
-  module _ (kind : MarkerKind) (dir : Dir) (dashed : Bool) (e : p ≡ Marker kind dir dashed) where
-    pub marker-kept : hasDouble new ≡ false → Marker kind dir dashed ≡ stroked p new
-    unfolding stroked
-    marker-kept h = rw (e, h)
-
-    pub marker-doubled : (r : Parts) → hasDouble new ≡ true → r ≡ doubleOnMarker new kind dir → r ≡ stroked p new
-    unfolding stroked
-    marker-doubled r h d = rw (e, h) d
-
 -- The numbers are small, and what they stand for is what they are the numbers of.
 
 pub weight-small : (w : Weight) → weightNumber w ≤ 3

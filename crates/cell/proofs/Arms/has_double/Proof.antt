@@ -6,7 +6,13 @@ use Rattle.cell.proofs.Arms.has_double.Tie as tie
 
 returns : tie.Need-returns
 unfolding hasDouble
-returns c = cc
+returns c =
+    rw (
+      c .before .before .before .is-double .ensures,
+      c .before .before .is-double2 .ensures,
+      c .before .is-double3 .ensures,
+      c .is-double4 .ensures,
+    )
 
 pub has-double-spec : {M : Type 1} → statement M
 has-double-spec =

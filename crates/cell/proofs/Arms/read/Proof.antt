@@ -6,7 +6,13 @@ use Rattle.cell.proofs.Arms.read.Tie as tie
 
 returns : tie.Need-returns
 unfolding readArms
-returns c = cc
+returns c =
+    rw (
+      c .before .before .before .from-bits .ensures,
+      c .before .before .from-bits2 .ensures,
+      c .before .from-bits3 .ensures,
+      c .from-bits4 .ensures,
+    )
 
 pub read-spec : {M : Type 1} → statement M
 read-spec =

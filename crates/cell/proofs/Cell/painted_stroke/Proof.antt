@@ -6,7 +6,7 @@ use Rattle.cell.proofs.Cell.painted_stroke.Tie as tie
 
 returns : tie.Need-returns
 unfolding paintedStroke
-returns c = cc
+returns c = rw (c .pack .ensures, c .before .stroked .ensures, c .before .before .read .ensures)
 
 pub painted-stroke-spec : {M : Type 1} → statement M
 painted-stroke-spec = tie.close (tie.spec (λ c κs. search needs) (λ c κs. search needs) (λ c κs. search needs) returns)
