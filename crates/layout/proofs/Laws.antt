@@ -79,16 +79,16 @@ in-header ts place h = rw (lt-ltb _ _ h)
 
 -- past the header, a word of a table
 pub past-header :
-    (ts : Tables) (place : ℕ) (r : FieldName) →
+    (ts : Tables) (place : ℕ) (r edges subgraphs labels later : FieldName) →
     headerSize ≤ place →
-    r
-    ≡ fieldInOr kind.Node (ts .nodes) place
-    (fieldInOr kind.Edge (ts .edges) place
-    (fieldInOr kind.Subgraph (ts .subgraphs) place
-    (fieldInOr kind.PlacedLabel (ts .labels) place (fieldPastLabels ts place)))) →
+    r ≡ fieldInOr kind.Node (ts .nodes) place edges →
+    edges ≡ fieldInOr kind.Edge (ts .edges) place subgraphs →
+    subgraphs ≡ fieldInOr kind.Subgraph (ts .subgraphs) place labels →
+    labels ≡ fieldInOr kind.PlacedLabel (ts .labels) place later →
+    later ≡ fieldPastLabels ts place →
     r ≡ fieldAt ts place
 unfolding fieldAt
-past-header ts place r h e = rw (le-ltb _ _ h) e
+past-header ts place r edges subgraphs labels later h e f p q t = rw (le-ltb _ _ h, e, f, p, q, t)
 
 -- a place lies in the table; the table has no words; the place lies past the table's end
 module _ (kind : RecordKind) (t : Table) (place : ℕ) (later : FieldName) where

@@ -4,7 +4,7 @@ use Rattle.layout.proofs.field.Statement.{statement}
 use Rattle.layout.proofs.field.Tie as tie
 
 returns : tie.Need-returns
-returns c = cc
+returns c = rw (c .word .ensures, c .before .place-of .ensures)
 
 pub field-spec : {M : Type 1} → statement M
 field-spec = tie.close (tie.spec (λ c κs. search needs) (λ c κs. search needs) returns)

@@ -8,7 +8,9 @@ returns : tie.Need-returns
 returns c = in-header _ _ (search needs)
 
 returns-2 : tie.Need-returns-2
-returns-2 c = past-header _ _ _ (search needs) (cc)
+returns-2 c =
+    past-header _ _ _ _ _ _ _ (search needs) (c .field-in-or4 .ensures) (c .before .field-in-or3 .ensures)
+    (c .before .before .field-in-or2 .ensures) (c .before .before .before .field-in-or .ensures) (search needs)
 
 pub field-at-spec : {M : Type 1} → statement M
 field-at-spec =

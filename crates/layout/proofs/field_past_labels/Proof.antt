@@ -6,7 +6,13 @@ use Rattle.layout.proofs.field_past_labels.Tie as tie
 
 returns : tie.Need-returns
 unfolding fieldPastLabels
-returns c = cc
+returns c =
+    rw (
+      c .field-in-or4 .ensures,
+      c .before .field-in-or3 .ensures,
+      c .before .before .field-in-or2 .ensures,
+      c .before .before .before .field-in-or .ensures,
+    )
 
 pub field-past-labels-spec : {M : Type 1} → statement M
 field-past-labels-spec =
