@@ -1,3 +1,4 @@
--- The laws that the functions' proofs share, and the theorems about the list of elements.
+-- What the proofs of the list of elements share, and what they show.
+pub mod Records
 pub mod Laws
 pub mod Theorems

@@ -1,47 +1,43 @@
 -- The list of elements by itself: codes 7 and 8, and each thing's listing.
-use Prim.Native.Nat.{ℕ, _+_, _-_, _≤_, _<_}
-use mathlib.Core.Bool.{Bool, true, false, _&&_, _||_}
+use Prim.Native.Nat.{ℕ, suc, _-_, _≤_, _<_}
+use mathlib.Core.Bool.{Bool, not, _&&_, _||_}
 use mathlib.Core.List.{List}
+use mathlib.Core.Path.{_≡_}
 use lib.Dec.{eqb, ltb}
+use Rattle.ground.specs.Each.{numbers, some}
 use Rattle.ground.specs.First.{foundIf, firstFrom}
+use Rattle.ground.specs.Judged.{Judged}
 use Rattle.ground.specs.declared.Found.{Found}
-use Rattle.ground.specs.declared.Found.the-variants as found
-use Rattle.image.specs.declared.Tables.{Tables}
-use Rattle.image.specs.SheetImage.{word, recordAt}
+use Rattle.layout.specs.declared.Tables.{Tables}
+use Rattle.layout.specs.Layout.{elementKind, elementIndex, elementFirstRow, elementLastRow, maxThings}
+use Rattle.layout.specs.Tables.{field}
+use Rattle.elements.specs.Records.{judgedRecords}
 
--- the words of element k
+-- "element, 4: kind .., index, first row, last row": those of element k
 
 abbrev pub kindOf : List ℕ → Tables → ℕ → ℕ
-kindOf image ts k = word image (recordAt (ts .elements) k)
+kindOf image ts k = field image (ts .elements) k elementKind
 
 abbrev pub indexOf : List ℕ → Tables → ℕ → ℕ
-indexOf image ts k = word image (recordAt (ts .elements) k + 1)
+indexOf image ts k = field image (ts .elements) k elementIndex
 
 abbrev pub firstRow : List ℕ → Tables → ℕ → ℕ
-firstRow image ts k = word image (recordAt (ts .elements) k + 2)
+firstRow image ts k = field image (ts .elements) k elementFirstRow
 
 abbrev pub lastRow : List ℕ → Tables → ℕ → ℕ
-lastRow image ts k = word image (recordAt (ts .elements) k + 3)
+lastRow image ts k = field image (ts .elements) k elementLastRow
 
 -- element k names this thing
 abbrev pub names : List ℕ → Tables → ℕ → ℕ → ℕ → Bool
 names image ts kind index k = eqb (kindOf image ts k) kind && eqb (indexOf image ts k) index
 
--- the first element, of so many from element k on, that names this thing
-unfoldable pub lister : List ℕ → Tables → ℕ → ℕ → ℕ → ℕ → Found
-lister image ts kind index k left = firstFrom (λ j. foundIf (names image ts kind index j) j) k left
-
 -- Code 7: "an element names one already listed"
 
-abbrev pub isFound : Found → Bool
-isFound found.None = false
-isFound (found.At k) = true
-
 abbrev pub listedBefore : List ℕ → Tables → ℕ → Bool
-listedBefore image ts k = isFound (lister image ts (kindOf image ts k) (indexOf image ts k) 0 k)
+listedBefore image ts k = some (numbers 0 k) (names image ts (kindOf image ts k) (indexOf image ts k))
 
-unfoldable pub badTwice : List ℕ → Tables → Found
-badTwice image ts = firstFrom (λ k. foundIf (listedBefore image ts k) (recordAt (ts .elements) k)) 0 (ts .elements .count)
+unfoldable pub twiceJudged : List ℕ → Tables → List Judged
+twiceJudged image ts = judgedRecords (ts .elements) (λ k. not (listedBefore image ts k))
 
 -- Code 8: "first row > last row, or first row below the previous element's"
 
@@ -49,14 +45,31 @@ abbrev pub rowsBroken : List ℕ → Tables → ℕ → Bool
 rowsBroken image ts k =
     ltb (lastRow image ts k) (firstRow image ts k) || (ltb 0 k && ltb (firstRow image ts k) (firstRow image ts (k - 1)))
 
-unfoldable pub badOrder : List ℕ → Tables → Found
-badOrder image ts = firstFrom (λ k. foundIf (rowsBroken image ts k) (recordAt (ts .elements) k)) 0 (ts .elements .count)
+unfoldable pub orderJudged : List ℕ → Tables → List Judged
+orderJudged image ts = judgedRecords (ts .elements) (λ k. not (rowsBroken image ts k))
+
+-- the first, of the first so many elements, that names a thing
+unfoldable pub lister : List ℕ → Tables → ℕ → ℕ → ℕ → Found
+lister image ts kind index count = firstFrom (λ k. foundIf (names image ts kind index k) k) 0 count
 
 -- the listing of a thing
 abbrev pub listing : List ℕ → Tables → ℕ → ℕ → Found
-listing image ts kind index = lister image ts kind index 0 (ts .elements .count)
+listing image ts kind index = lister image ts kind index (ts .elements .count)
 
--- What codes 2 and 4 say of the elements: each names a thing of one of three kinds, of which there are at most 1,024.
+-- What an image keeps that neither refuses.
+
+-- no two elements name the same thing
+abbrev pub Once : List ℕ → Tables → Type 0
+Once image ts =
+    (j k : ℕ) → j < k → k < ts .elements .count → kindOf image ts j ≡ kindOf image ts k → indexOf image ts j ≡ indexOf image ts k → ⊥
+
+-- each element's first row is at most its last, and at most the next element's first
+abbrev pub Ordered : List ℕ → Tables → Type 0
+Ordered image ts =
+    ((k : ℕ) → k < ts .elements .count → firstRow image ts k ≤ lastRow image ts k)
+    × ((k : ℕ) → suc k < ts .elements .count → firstRow image ts k ≤ firstRow image ts (suc k))
+
+-- What codes 2 and 4 say of the elements: each names a thing of one of three kinds, each of which has only so many.
 pub record ElementsGood (image : List ℕ) (ts : Tables) : Type 0 where
   pub kind : (k : ℕ) → k < ts .elements .count → kindOf image ts k ≤ 2
-  pub index : (k : ℕ) → k < ts .elements .count → indexOf image ts k < 1024
+  pub index : (k : ℕ) → k < ts .elements .count → indexOf image ts k < maxThings

@@ -1,39 +1,37 @@
--- How the code finds each thing's listing in one walk: a word for each thing, 1,024 of each kind, that holds the number of the element which lists it and
--- 1, or 0. (`slots-list` of the proofs: on an image that keeps the rules 2 and 4 the words are the listings.)
-use Prim.Native.Nat.{ℕ, zero, suc, _+_, _*_}
-use mathlib.Core.Bool.{Bool, true, false, cond}
+-- For the proofs alone: how the code finds each thing's listing in one walk. A word for each thing, `maxThings` of each kind, holds the number of the
+-- element which lists it and 1, or 0.
+use Prim.Native.Nat.{ℕ, zero, suc, _+_, _*_, _≤_, _<_}
+use mathlib.Core.Path.{_≡_}
 use mathlib.Core.List.{List}
-use lib.ListN.{getD, set}
-use lib.Dec.{eqb}
+use lib.ListN.{getD}
+use Rattle.ground.specs.Judged.{firstBad}
 use Rattle.ground.specs.declared.Found.{Found}
 use Rattle.ground.specs.declared.Found.the-variants as found
-use Rattle.image.specs.declared.Tables.{Tables}
-use Rattle.image.specs.SheetImage.{recordAt}
-use Rattle.elements.specs.Elements.{kindOf, indexOf}
+use Rattle.layout.specs.declared.Tables.{Tables}
+use Rattle.layout.specs.Layout.{maxThings}
+use Rattle.elements.specs.Elements.{kindOf, indexOf, lister, twiceJudged}
+
+abbrev pub slotCount : ℕ
+slotCount = 3 * maxThings
 
 abbrev pub slotOf : ℕ → ℕ → ℕ
-slotOf kind index = 1024 * kind + index
+slotOf kind index = maxThings * kind + index
 
 abbrev pub elementSlot : List ℕ → Tables → ℕ → ℕ
 elementSlot image ts k = slotOf (kindOf image ts k) (indexOf image ts k)
-
--- the words after the elements from k on, so many; the walk ends at one whose thing is listed already
-unfoldable pub slotsAfter : List ℕ → Tables → List ℕ → ℕ → ℕ → List ℕ
-slotsAfter image ts slots k zero = slots
-slotsAfter image ts slots k (suc left) =
-    cond (eqb (getD slots (elementSlot image ts k) 0) 0)
-    (slotsAfter image ts (set slots (elementSlot image ts k) (k + 1)) (suc k) left)
-    slots
-
--- the first such element's place
-unfoldable pub twiceAfter : List ℕ → Tables → List ℕ → ℕ → ℕ → Found
-twiceAfter image ts slots k zero = found.None
-twiceAfter image ts slots k (suc left) =
-    cond (eqb (getD slots (elementSlot image ts k) 0) 0)
-    (twiceAfter image ts (set slots (elementSlot image ts k) (k + 1)) (suc k) left)
-    (found.At (recordAt (ts .elements) k))
 
 -- what a slot's word says
 abbrev pub slotListing : ℕ → Found
 slotListing zero = found.None
 slotListing (suc k) = found.At k
+
+-- each slot says which of the first so many elements lists its thing
+abbrev pub Held : List ℕ → Tables → List ℕ → ℕ → Type 0
+Held image ts slots count =
+    (kind index : ℕ) → kind ≤ 2 → index < maxThings →
+    slotListing (getD slots (slotOf kind index) 0) ≡ lister image ts kind index count
+
+-- what the walk finds, and leaves in the slots where it finds nothing
+pub record Listed (image : List ℕ) (ts : Tables) (slots : List ℕ) (first : Found) : Type 0 where
+  pub twice : first ≡ firstBad (twiceJudged image ts)
+  pub held : first ≡ found.None → Held image ts slots (ts .elements .count)

@@ -1,19 +1,32 @@
 // The list of elements by itself: codes 7 and 8, and each thing's listing, found in one walk.
 ghost use mathlib.Core.Path.{_≡_};
 ghost use Prim.Native.Nat.{_+_, _*_, _-_, _≤_, _<_};
-ghost use lib.ListN.{length, getD, set};
-ghost use Rattle.image.specs.SheetImage.{AllSmall, Small};
-ghost use Rattle.elements.specs.Elements.{firstRow, lastRow, rowsBroken, badOrder};
-ghost use Rattle.elements.specs.Slots.{slotOf, elementSlot, slotsAfter, twiceAfter};
+ghost use lib.ListN.{length, getD, set, replicate};
+ghost use Rattle.ground.specs.Judged.{firstBad};
+ghost use Rattle.layout.specs.Layout.{maxElements};
+ghost use Rattle.layout.specs.Small.{AllSmall};
+ghost use Rattle.elements.specs.Elements.{firstRow, lastRow, rowsBroken, orderJudged, ElementsGood};
+ghost use Rattle.elements.specs.Slots.{slotCount, slotOf, elementSlot, Listed};
 use ground::Found;
-use image::Tables;
-use image::word;
+use layout::ELEMENT_FIRST_ROW;
+use layout::ELEMENT_INDEX;
+use layout::ELEMENT_KIND;
+use layout::ELEMENT_LAST_ROW;
+use layout::Tables;
+use layout::field;
+
+// How many slots there are: a word for each thing, of which each of three kinds has at most so many.
+pub const SLOT_COUNT: usize = 3 * THINGS;
+
+// How many slots each kind has.
+const THINGS: usize = layout::MAX_THINGS as usize;
 
 // Where a thing's word stands among the slots.
-pub fn slot_of(kind: u32, index: u32) -> usize
+pub fn slot_of(kind: u32, index: usize) -> usize
+    requires { ⌜ index < 4294967296 ⌝ }
     ensures { λ r. ⌜ r ≡ slotOf kind index ⌝ }
 {
-    1024 * ground::number(kind) + ground::number(index)
+    THINGS * ground::number(kind) + index
 }
 
 fn element_slot(image: &[u32], ts: Tables, k: usize) -> usize
@@ -21,8 +34,8 @@ fn element_slot(image: &[u32], ts: Tables, k: usize) -> usize
     ensures { λ r. ⌜ r ≡ elementSlot (now (image .entry)) ts k ⌝ }
 {
     let elements = ts.elements;
-    let at = elements.at(k);
-    slot_of(word(image, at), word(image, at + 1))
+    let index = ground::number(field(image, elements, k, ELEMENT_INDEX));
+    slot_of(field(image, elements, k, ELEMENT_KIND), index)
 }
 
 // The word at a slot, 0 past the end.
@@ -40,11 +53,11 @@ fn set_slot(slots: &mut [u32], slot: usize, value: u32)
     }
 }
 
-// Code 7, and each thing's listing: one walk over the elements.
+// Code 7, and each thing's listing: one walk over the elements, with slots that are all 0.
 pub fn list_elements(image: &[u32], ts: Tables, slots: &mut [u32]) -> Found
-    requires { ⌜ AllSmall ts × (ts .elements .count ≤ 3072) ⌝ }
-    ensures { λ r. ⌜ r ≡ twiceAfter (now (image .entry)) ts (now (slots .entry)) 0 (ts .elements .count) ⌝ }
-    ensures { λ _. ⌜ now (slots .exit) ≡ slotsAfter (now (image .entry)) ts (now (slots .entry)) 0 (ts .elements .count) ⌝ }
+    requires { ⌜ AllSmall ts × (ts .elements .count ≤ maxElements) × ElementsGood (now image) ts ⌝ }
+    requires { ⌜ now slots ≡ replicate slotCount 0 ⌝ }
+    ensures { λ r. ⌜ Listed (now (image .entry)) ts (now (slots .exit)) r ⌝ }
 {
     let elements = ts.elements;
     let count = elements.count;
@@ -52,7 +65,7 @@ pub fn list_elements(image: &[u32], ts: Tables, slots: &mut [u32]) -> Found
     while k < count {
         let slot = element_slot(image, ts, k);
         if slot_word(slots, slot) != 0 {
-            return Found::At(elements.at(k));
+            return Found::At(layout::record_at(elements, k));
         }
         set_slot(slots, slot, (k + 1) as u32);
         k += 1;
@@ -65,7 +78,7 @@ pub fn first_row(image: &[u32], ts: Tables, k: usize) -> u32
     ensures { λ r. ⌜ r ≡ firstRow (now (image .entry)) ts k ⌝ }
 {
     let elements = ts.elements;
-    word(image, elements.at(k) + 2)
+    field(image, elements, k, ELEMENT_FIRST_ROW)
 }
 
 pub fn last_row(image: &[u32], ts: Tables, k: usize) -> u32
@@ -73,7 +86,7 @@ pub fn last_row(image: &[u32], ts: Tables, k: usize) -> u32
     ensures { λ r. ⌜ r ≡ lastRow (now (image .entry)) ts k ⌝ }
 {
     let elements = ts.elements;
-    word(image, elements.at(k) + 3)
+    field(image, elements, k, ELEMENT_LAST_ROW)
 }
 
 // "first row > last row, or first row below the previous element's"
@@ -94,14 +107,14 @@ fn rows_broken(image: &[u32], ts: Tables, k: usize) -> bool
 // Code 8.
 pub fn bad_order(image: &[u32], ts: Tables) -> Found
     requires { ⌜ AllSmall ts ⌝ }
-    ensures { λ r. ⌜ r ≡ badOrder (now (image .entry)) ts ⌝ }
+    ensures { λ r. ⌜ r ≡ firstBad (orderJudged (now (image .entry)) ts) ⌝ }
 {
     let elements = ts.elements;
     let count = elements.count;
     let mut k: usize = 0;
     while k < count {
         if rows_broken(image, ts, k) {
-            return Found::At(elements.at(k));
+            return Found::At(layout::record_at(elements, k));
         }
         k += 1;
     }
