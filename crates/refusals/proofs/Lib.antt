@@ -1,5 +1,4 @@
--- What is shown of the check: the laws that the functions' proofs cite, the order of the rules, what each means where it finds nothing, and the theorems.
+-- What the proofs of the check share, and what they show.
+pub mod FirstBroken
 pub mod Laws
-pub mod Judged
 pub mod Kept
-pub mod Theorems

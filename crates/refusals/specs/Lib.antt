@@ -1,5 +1,4 @@
--- What document 01 says of the check: each rule of "Refusals in order", and the order.
-pub mod Corners
-pub mod Listing
-pub mod Refusals
+-- What document 01 says of the check: the rules of "Refusals in order", their order, and what an accepted image keeps.
+pub mod FirstBroken
+pub mod Rules
 pub mod Accepted
