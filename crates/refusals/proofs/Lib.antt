@@ -2,3 +2,5 @@
 pub mod FirstBroken
 pub mod Laws
 pub mod Kept
+pub mod Accepted
+pub mod Theorems
