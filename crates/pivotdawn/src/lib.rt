@@ -1,7 +1,7 @@
 // The compositor for C and Rust to link: numbers and slices alone. In C a slice is a pointer and a length.
 ghost use mathlib.Core.Path.{_≡_};
 ghost use lib.ListN.{set};
-ghost use Rattle.refusals.specs.Refusals.{checked};
+ghost use Rattle.refusals.specs.Rules.{checked};
 ghost use Rattle.pivotdawn.specs.Told.{told};
 
 // Stores a number at a place, where there is one.
