@@ -2,4 +2,3 @@
 pub mod Points
 pub mod Orthogonal
 pub mod Walk
-pub mod Passing

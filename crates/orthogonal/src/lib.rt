@@ -1,12 +1,8 @@
-// "Orthogonal, both axes": a path through points, its legs handed back one by one, its two arrows, a leg's two pieces, and the rows that they touch.
+// "Orthogonal, both axes": a path through points, and its legs, handed back one by one.
 use cell::Dir;
 use image::Point;
-use rows::Rows;
 
-pub mod arrows;
-pub mod pieces;
 pub mod points;
-pub mod reach;
 pub mod walk;
 
 // An arrow of an Orthogonal path.
@@ -65,14 +61,4 @@ pub enum Step {
     Leg(PathLeg, Cursor),
     // no leg is left
     Done,
-}
-
-// How far a look along the points of an Orthogonal path has come, for its rows alone.
-pub struct Passed {
-    // the last stop
-    pub stop: Point,
-    // whether that is the source
-    pub first: bool,
-    // the rows that the legs up to it touch
-    pub rows: Rows,
 }

@@ -94,7 +94,7 @@ pub fn edge_reach(window: Window, e: Edge, points: &[u32]) -> Reach
             points: _,
             start_offset,
         } => multi_reach(window, e, start_offset, points),
-        Path::Orthogonal(_) => orthogonal::reach::orthogonal_reach(window, e, points),
+        Path::Orthogonal(_) => orthogonal_reach::orthogonal_reach(window, e, points),
         Path::Spline => direct_reach(window, e),
     }
 }

@@ -1,0 +1,20 @@
+-- `bend_arms` gives the arms toward both neighbours.
+use borrow.Author.Needs.{needs}
+use Rattle.orthogonal.specs.Orthogonal.{bendArms}
+use Rattle.leg_pieces.proofs.bend_arms.Statement.{statement}
+use Rattle.leg_pieces.proofs.bend_arms.Tie as tie
+
+returns : tie.Need-returns
+unfolding bendArms
+returns c = cc
+
+pub bend-arms-spec : {M : Type 1} → statement M
+bend-arms-spec =
+    tie.close
+    (tie.spec
+    (λ c κs. search needs)
+    (λ c κs. search needs)
+    (λ c κs. search needs)
+    (λ c κs. search needs)
+    (λ c κs. search needs)
+    returns)
