@@ -221,12 +221,12 @@ pub fn run_count(image: &[u32], ts: Tables) -> usize
     let sheet = sheet_of(image);
     let edges = ts.edges;
     let count = edges.count;
-    let mut runs: usize = 0;
+    let mut total: usize = 0;
     let mut k: usize = 0;
     while k < count {
-        let reach = edge_reach(image, ts, sheet, k);
-        runs += reach.runs;
+        let edge = edge_reach(image, ts, sheet, k);
+        total += edge.runs;
         k += 1;
     }
-    runs
+    total
 }

@@ -6,10 +6,10 @@ use Rattle.listing.proofs.run_count.Statement.{statement}
 use Rattle.listing.proofs.run_count.Tie as tie
 
 abbrev Inv-loop : tie.InvT-loop
-Inv-loop image ts sheet count runs₀ k₀ runs k = (k ≤ count) × Counting image ts k runs
+Inv-loop image ts sheet count total₀ k₀ total k = (k ≤ count) × Counting image ts k total
 
 abbrev μ-loop : tie.MeasureT-loop
-μ-loop image ts sheet count runs₀ k₀ runs k = count - k
+μ-loop image ts sheet count total₀ k₀ total k = count - k
 
 loop-holds : tie.Need-loop-holds Inv-loop μ-loop
 loop-holds c = (search needs, counting-whole _ _)
