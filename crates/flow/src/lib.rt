@@ -12,8 +12,6 @@ use cell::Weight;
 use image::Edge;
 use rows::Rows;
 
-pub mod touch;
-
 // A signed sum as a row or a column.
 pub enum Coordinate {
     // 0 or more

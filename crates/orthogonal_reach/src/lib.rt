@@ -4,7 +4,6 @@ ghost use Rattle.flow.specs.Reach.{reachOf};
 ghost use Rattle.orthogonal.specs.Orthogonal.{orthogonalPieces};
 ghost use Rattle.orthogonal_reach.specs.Passing.{bendRows, lineRows, passPoint};
 use flow::Reach;
-use flow::touch;
 use image::Edge;
 use image::Point;
 use orthogonal::points;

@@ -8,7 +8,6 @@ ghost use Rattle.path.specs.Touched.{EdgeReached};
 use crate::legs;
 use flow::Leg;
 use flow::Reach;
-use flow::touch;
 use image::Edge;
 use image::FlowAxis;
 use image::Path;

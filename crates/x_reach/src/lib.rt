@@ -17,7 +17,7 @@ fn trunk_rows(window: Window, has_trunk: bool, y1: usize, x1: usize, bend: usize
     ensures { λ r. ⌜ r ≡ trunkRows window «has_trunk» y1 x1 bend ⌝ }
 {
     if has_trunk {
-        flow::touch::horizontal_rows(window, y1, x1, bend)
+        touch::horizontal_rows(window, y1, x1, bend)
     } else {
         Rows::None
     }
@@ -47,10 +47,10 @@ fn bent_reach(
 ) -> Reach
     ensures { λ r. ⌜ (r ≡ bentReach reach window «has_trunk» «strokes_start» bend x1 y1 x2 y2) × (r .runs ≡ reach .runs) ⌝ }
 {
-    let trunk = flow::touch::with_rows(reach, trunk_rows(window, has_trunk, y1, x1, bend));
-    let start = flow::touch::with_rows(trunk, flow::touch::row_if(window, strokes_start, y1));
-    let crossed = flow::touch::with_rows(start, crossing_rows(window, y1, y2));
-    flow::touch::with_rows(crossed, flow::touch::horizontal_rows(window, y2, bend, x2))
+    let trunk = touch::with_rows(reach, trunk_rows(window, has_trunk, y1, x1, bend));
+    let start = touch::with_rows(trunk, touch::row_if(window, strokes_start, y1));
+    let crossed = touch::with_rows(start, crossing_rows(window, y1, y2));
+    touch::with_rows(crossed, touch::horizontal_rows(window, y2, bend, x2))
 }
 
 // What is reached with a Direct edge or a Spline.
@@ -60,7 +60,7 @@ pub fn direct_reach(reach: Reach, window: Window, e: Edge) -> Reach
     let row = ground::number(e.from_y);
     let from = ground::number(e.from_x);
     let to = ground::number(e.to_x);
-    flow::touch::with_rows(reach, flow::touch::horizontal_rows(window, row, from, to))
+    touch::with_rows(reach, touch::horizontal_rows(window, row, from, to))
 }
 
 // What is reached with a Corner.
@@ -89,14 +89,11 @@ fn channel_reach(
 ) -> Reach
     ensures { λ r. ⌜ (r ≡ channelReach reach window channel start end x1 y1 x2 y2) × (r .runs ≡ reach .runs) ⌝ }
 {
-    let trunk = flow::touch::with_rows(reach, flow::touch::horizontal_rows(window, y1, x1, start));
-    let out = flow::touch::with_rows(trunk, crossing_rows(window, y1, channel));
-    let side = flow::touch::with_rows(
-        out,
-        flow::touch::horizontal_rows(window, channel, start, end),
-    );
-    let back = flow::touch::with_rows(side, crossing_rows(window, channel, y2));
-    flow::touch::with_rows(back, flow::touch::horizontal_rows(window, y2, end, x2))
+    let trunk = touch::with_rows(reach, touch::horizontal_rows(window, y1, x1, start));
+    let out = touch::with_rows(trunk, crossing_rows(window, y1, channel));
+    let side = touch::with_rows(out, touch::horizontal_rows(window, channel, start, end));
+    let back = touch::with_rows(side, crossing_rows(window, channel, y2));
+    touch::with_rows(back, touch::horizontal_rows(window, y2, end, x2))
 }
 
 // What is reached with a SideChannel.
@@ -127,10 +124,10 @@ pub fn leg_reach(reach: Reach, window: Window, e: Edge, offset: u32, leg: Leg) -
 {
     let first = leg.first;
     if leg.y1 == leg.y2 {
-        let start = flow::touch::with_rows(reach, flow::touch::row_if(window, !first, leg.y1));
-        return flow::touch::with_rows(
+        let start = touch::with_rows(reach, touch::row_if(window, !first, leg.y1));
+        return touch::with_rows(
             start,
-            flow::touch::horizontal_rows(window, leg.y1, leg.x1, leg.x2),
+            touch::horizontal_rows(window, leg.y1, leg.x1, leg.x2),
         );
     }
     let corner = x_flow::corner_column(e, offset, leg);

@@ -17,7 +17,7 @@ fn trunk_rows(window: Window, has_trunk: bool, y1: usize, bend: usize) -> Rows
     ensures { λ r. ⌜ r ≡ trunkRows window «has_trunk» y1 bend ⌝ }
 {
     if has_trunk {
-        flow::touch::vertical_rows(window, y1, bend)
+        touch::vertical_rows(window, y1, bend)
     } else {
         Rows::None
     }
@@ -30,8 +30,8 @@ fn crossing_reach(reach: Reach, window: Window, row: usize, x1: usize, x2: usize
 {
     let rows = reach.rows;
     Reach {
-        rows: rows.join(flow::touch::row_if(window, x1 != x2, row)),
-        runs: reach.runs + flow::touch::piece_runs(window, y_flow::cross_run(row, x1, x2)),
+        rows: rows.join(touch::row_if(window, x1 != x2, row)),
+        runs: reach.runs + touch::piece_runs(window, y_flow::cross_run(row, x1, x2)),
     }
 }
 
@@ -50,10 +50,10 @@ fn bent_reach(
     requires { ⌜ (x1 < bound) × (x2 < bound) × (reach .runs < 0x4000000000000000) ⌝ }
     ensures { λ r. ⌜ (r ≡ bentReach reach window «has_trunk» «strokes_start» bend x1 y1 x2 y2) × (r .runs ≤ reach .runs + 1) ⌝ }
 {
-    let trunk = flow::touch::with_rows(reach, trunk_rows(window, has_trunk, y1, bend));
-    let start = flow::touch::with_rows(trunk, flow::touch::row_if(window, strokes_start, y1));
+    let trunk = touch::with_rows(reach, trunk_rows(window, has_trunk, y1, bend));
+    let start = touch::with_rows(trunk, touch::row_if(window, strokes_start, y1));
     let crossed = crossing_reach(start, window, bend, x1, x2);
-    flow::touch::with_rows(crossed, flow::touch::vertical_rows(window, bend, y2))
+    touch::with_rows(crossed, touch::vertical_rows(window, bend, y2))
 }
 
 // What is reached with a Direct edge or a Spline.
@@ -62,7 +62,7 @@ pub fn direct_reach(reach: Reach, window: Window, e: Edge) -> Reach
 {
     let from = ground::number(e.from_y);
     let to = ground::number(e.to_y);
-    flow::touch::with_rows(reach, flow::touch::vertical_rows(window, from, to))
+    touch::with_rows(reach, touch::vertical_rows(window, from, to))
 }
 
 // What is reached with a Corner.
@@ -93,9 +93,9 @@ fn channel_reach(
     ensures { λ r. ⌜ (r ≡ channelReach reach window channel start end x1 x2 y2) × (r .runs ≤ reach .runs + 2) ⌝ }
 {
     let out = crossing_reach(reach, window, start, x1, channel);
-    let side = flow::touch::with_rows(out, flow::touch::vertical_rows(window, start, end));
+    let side = touch::with_rows(out, touch::vertical_rows(window, start, end));
     let back = crossing_reach(side, window, end, channel, x2);
-    flow::touch::with_rows(back, flow::touch::vertical_rows(window, end, y2))
+    touch::with_rows(back, touch::vertical_rows(window, end, y2))
 }
 
 // What is reached with a SideChannel.
@@ -126,8 +126,8 @@ pub fn leg_reach(reach: Reach, window: Window, e: Edge, offset: u32, leg: Leg) -
 {
     let first = leg.first;
     if leg.x1 == leg.x2 {
-        let start = flow::touch::with_rows(reach, flow::touch::row_if(window, !first, leg.y1));
-        return flow::touch::with_rows(start, flow::touch::vertical_rows(window, leg.y1, leg.y2));
+        let start = touch::with_rows(reach, touch::row_if(window, !first, leg.y1));
+        return touch::with_rows(start, touch::vertical_rows(window, leg.y1, leg.y2));
     }
     let corner = y_flow::corner_row(e, offset, leg);
     let Coordinate::At(bend) = corner else {

@@ -1,7 +1,7 @@
 -- `row_if` gives a row, where it is touched.
 use borrow.Author.Needs.{needs}
-use Rattle.flow.proofs.touch.row_if.Statement.{statement}
-use Rattle.flow.proofs.touch.row_if.Tie as tie
+use Rattle.touch.proofs.row_if.Statement.{statement}
+use Rattle.touch.proofs.row_if.Tie as tie
 
 returns : tie.Need-returns
 returns c = rw (c .before .if1 .taken) (c .clip .ensures)

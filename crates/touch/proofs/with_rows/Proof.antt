@@ -1,9 +1,9 @@
 -- `with_rows` joins rows more.
 use borrow.Author.Needs.{needs}
 use mathlib.Core.Path.{refl}
 use Rattle.flow.specs.Reach.{withRows}
-use Rattle.flow.proofs.touch.with_rows.Statement.{statement}
-use Rattle.flow.proofs.touch.with_rows.Tie as tie
+use Rattle.touch.proofs.with_rows.Statement.{statement}
+use Rattle.touch.proofs.with_rows.Tie as tie
 
 returns : tie.Need-returns
 unfolding withRows

@@ -1,10 +1,10 @@
 // The rows of a window that a piece touches, and the runs that it makes there.
 ghost use mathlib.Core.Path.{_≡_};
 ghost use Prim.Native.Nat.{_+_, _≤_, _<_};
 ghost use Rattle.flow.specs.Pieces.{pieceRunsIn};
 ghost use Rattle.flow.specs.Reach.{rowIf, verticalRows, horizontalRows, pieceRows, noReach, pieceReach, joinReach, withRows};
-use crate::Piece;
-use crate::Reach;
+use flow::Piece;
+use flow::Reach;
 use rows::Rows;
 use rows::Window;
 

@@ -1,9 +1,9 @@
 -- `vertical_rows` gives the rows strictly between two.
 use borrow.Author.Needs.{needs}
 use Rattle.flow.specs.Reach.{verticalRows}
 use Rattle.flow.proofs.Reached.{vertical-short}
-use Rattle.flow.proofs.touch.vertical_rows.Statement.{statement}
-use Rattle.flow.proofs.touch.vertical_rows.Tie as tie
+use Rattle.touch.proofs.vertical_rows.Statement.{statement}
+use Rattle.touch.proofs.vertical_rows.Tie as tie
 
 returns : tie.Need-returns
 returns c = vertical-short _ _ _ (search needs)

@@ -1,8 +1,8 @@
 -- `horizontal_rows` gives a row, if a column lies strictly between two.
 use borrow.Author.Needs.{needs}
 use Rattle.flow.proofs.Reached.{horizontal-short, horizontal-long}
-use Rattle.flow.proofs.touch.horizontal_rows.Statement.{statement}
-use Rattle.flow.proofs.touch.horizontal_rows.Tie as tie
+use Rattle.touch.proofs.horizontal_rows.Statement.{statement}
+use Rattle.touch.proofs.horizontal_rows.Tie as tie
 
 returns : tie.Need-returns
 returns c = horizontal-short _ _ _ _ (search needs)

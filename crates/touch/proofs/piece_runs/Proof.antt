@@ -1,10 +1,10 @@
 -- `piece_runs` counts a run on a row of the window.
 use borrow.Author.Needs.{needs}
 use native.Mathlib.Omega.{arith}
 use Rattle.flow.specs.Pieces.{pieceRunsIn}
 use Rattle.flow.proofs.Reached.{no-run}
-use Rattle.flow.proofs.touch.piece_runs.Statement.{statement}
-use Rattle.flow.proofs.touch.piece_runs.Tie as tie
+use Rattle.touch.proofs.piece_runs.Statement.{statement}
+use Rattle.touch.proofs.piece_runs.Tie as tie
 
 returns : tie.Need-returns
 returns c = (no-run _ _ (c .match .keys2), omega arith)

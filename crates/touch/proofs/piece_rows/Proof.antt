@@ -1,8 +1,8 @@
 -- `piece_rows` gives the rows of a window that a piece touches.
 use borrow.Author.Needs.{needs}
 use Rattle.flow.specs.Reach.{pieceRows}
-use Rattle.flow.proofs.touch.piece_rows.Statement.{statement}
-use Rattle.flow.proofs.touch.piece_rows.Tie as tie
+use Rattle.touch.proofs.piece_rows.Statement.{statement}
+use Rattle.touch.proofs.piece_rows.Tie as tie
 
 returns : tie.Need-returns
 unfolding pieceRows

@@ -1,9 +1,9 @@
 -- `with_piece` joins what a piece reaches.
 use borrow.Author.Needs.{needs}
 use native.Mathlib.Omega.{arith}
 use Rattle.flow.specs.Reach.{pieceReach, joinReach}
-use Rattle.flow.proofs.touch.with_piece.Statement.{statement}
-use Rattle.flow.proofs.touch.with_piece.Tie as tie
+use Rattle.touch.proofs.with_piece.Statement.{statement}
+use Rattle.touch.proofs.with_piece.Tie as tie
 
 returns : tie.Need-returns
 unfolding pieceReach joinReach
