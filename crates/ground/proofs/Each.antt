@@ -2,7 +2,7 @@
 use native.Mathlib.Omega.{arith}
 use native.Mathlib.Numerals.{add-one}
 use Prim.Native.Nat.{ℕ, zero, suc, _+_, _-_, _≤_, _<_}
-use mathlib.Core.Bool.{Bool, true, false, _&&_, _||_}
+use mathlib.Core.Bool.{Bool, true, false, _&&_, _||_, and-assoc, or-assoc, or-true}
 use mathlib.Core.List.{List, [], _∷_, _++_, append-assoc, append-nil}
 use mathlib.Core.Path.{_≡_, refl, sym, _∙_, ap}
 use Rattle.ground.specs.Each.{numbers, each, some, every}
@@ -41,14 +41,6 @@ by-bool false f g = g refl
 pub by-or : {P : Type 0} (a b : Bool) → a || b ≡ true → (a ≡ true → P) → (b ≡ true → P) → P
 by-or true b e f g = f refl
 by-or false b e f g = g e
-
-or-assoc : (a b c : Bool) → (a || b) || c ≡ a || (b || c)
-or-assoc true b c = refl
-or-assoc false b c = refl
-
-and-assoc : (a b c : Bool) → (a && b) && c ≡ a && (b && c)
-and-assoc true b c = refl
-and-assoc false b c = refl
 
 -- Two lists one after the other.
 
@@ -128,10 +120,6 @@ module _ (test : ℕ → Bool) where
       by-order k j
       (λ o. rw (number-some (suc k) n j (omega arith) (omega arith) e) (or-true (test k)))
       (λ o. let d : j ≡ k = omega arith in rw (rw d at e))
-    where
-      or-true : (b : Bool) → b || true ≡ true
-      or-true true = refl
-      or-true false = refl
 
   pub every-number : (k n : ℕ) → every (numbers k n) test ≡ true → (j : ℕ) → k ≤ j → j < k + n → test j ≡ true
   unfolding every numbers

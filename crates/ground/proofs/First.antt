@@ -1,48 +1,12 @@
--- The first of numbered places: a turn of the search for it, a word more of a record, and what it means that nothing is found.
+-- The first of numbered places: what it is that was found, and what it means that nothing was.
 use native.Mathlib.Omega.{arith}
-use native.Mathlib.Numerals.{add-one}
-use Prim.Native.Nat.{ℕ, zero, suc, _+_, _-_, _≤_, _<_}
-use mathlib.Core.Bool.{Bool, true, false, not}
-use mathlib.Core.List.{List, [], _∷_}
-use mathlib.Core.Path.{_≡_, refl, sym, _∙_}
-use lib.ListN.{length, getD}
+use Prim.Native.Nat.{ℕ, zero, suc, _+_, _≤_, _<_}
+use mathlib.Core.Bool.{Bool, true, false}
+use mathlib.Core.Path.{_≡_, refl, _∙_}
 use Rattle.ground.specs.declared.Found.{Found}
 use Rattle.ground.specs.declared.Found.the-variants as found
-use Rattle.ground.specs.First.{orElse, foundIf, firstFrom, firstBad}
+use Rattle.ground.specs.First.{orElse, foundIf, firstFrom}
 use Rattle.ground.proofs.Order.{by-order}
-
--- what is found at once, or later
-step : (f : ℕ → Found) (k n : ℕ) → k < n → firstFrom f k (n - k) ≡ orElse (f k) (firstFrom f (k + 1) (n - (k + 1)))
-unfolding firstFrom
-step f k n h = let e : n - k ≡ suc (n - (k + 1)) = omega arith in rw (e, add-one)
-
--- before the first turn all places are left
-pub first-whole : (f : ℕ → Found) (n : ℕ) → firstFrom f 0 (n - 0) ≡ firstFrom f 0 n
-first-whole f n = let e : n - 0 ≡ n = omega arith in rw e
-
--- a turn at which nothing is found
-pub first-again : (f : ℕ → Found) (k n : ℕ) (r : Found) → k < n → firstFrom f k (n - k) ≡ r → f k ≡ found.None → firstFrom f (k + 1) (n - (k + 1)) ≡ r
-first-again f k n r h i e = rw e at (sym (step f k n h) ∙ i)
-
--- a turn at which a place is found
-pub first-hit : (f : ℕ → Found) (k n : ℕ) (r : Found) (p : ℕ) → k < n → firstFrom f k (n - k) ≡ r → f k ≡ found.At p → found.At p ≡ r
-first-hit f k n r p h i e = rw e at (sym (step f k n h) ∙ i)
-
--- no place is left
-pub first-done : (f : ℕ → Found) (k n : ℕ) (r : Found) → n ≤ k → firstFrom f k (n - k) ≡ r → found.None ≡ r
-unfolding firstFrom
-first-done f k n r h i = let e : n - k ≡ 0 = omega arith in rw e at i
-
--- one word of a record, and the rest
-pub bad-step : (at i : ℕ) (good : Bool) (rest : List Bool) → firstBad at i (good ∷ rest) ≡ orElse (foundIf (not good) (at + i)) (firstBad at (suc i) rest)
-unfolding firstBad
-bad-step at i true rest = refl
-bad-step at i false rest = refl
-
--- no word is left
-pub bad-end : (at i : ℕ) → firstBad at i [] ≡ found.None
-unfolding firstBad
-bad-end at i = refl
 
 -- grouping does not matter
 pub or-assoc : (a b c : Found) → orElse (orElse a b) c ≡ orElse a (orElse b c)
@@ -74,13 +38,6 @@ first-none f k (suc n) h j p q =
     (λ o. first-none f (suc k) n (both .1) j (omega arith) (omega arith))
     (λ o. let e : j ≡ k = omega arith in rw e (both .0))
 
--- Where nothing is at any place, nothing is found.
-pub none-first : (f : ℕ → Found) (k n : ℕ) → ((j : ℕ) → k ≤ j → j < k + n → f j ≡ found.None) → firstFrom f k n ≡ found.None
-unfolding firstFrom
-none-first f k zero h = refl
-none-first f k (suc n) h =
-    rw (h k (omega arith) (omega arith)) (none-first f (suc k) n (λ j p q. h j (omega arith) (omega arith)))
-
 -- a place that is found, from k on, with nothing before it
 abbrev pub FirstAt : (ℕ → Found) → ℕ → ℕ → ℕ → Type 0
 FirstAt f k n p =
@@ -102,18 +59,3 @@ pub first-at : (f : ℕ → Found) (k n p : ℕ) → firstFrom f k n ≡ found.A
 unfolding firstFrom
 first-at f k zero p h = let z : _≡_ {A = ℕ} 0 1 = cc in absurd (omega arith)
 first-at f k (suc n) p h = first-at-step f k n p (f k) (firstFrom f (suc k) n) refl (first-at f (suc k) n p) h
-
--- Where no word is found to be bad, each is good.
-pub bad-none : (at i : ℕ) (words : List Bool) → firstBad at i words ≡ found.None → (j : ℕ) → j < length words → getD words j true ≡ true
-unfolding firstBad
-bad-none at i [] h j p = refl
-bad-none at i (true ∷ rest) h zero p = refl
-bad-none at i (true ∷ rest) h (suc j) p = bad-none at (suc i) rest h j (omega arith)
-bad-none at i (false ∷ rest) h j p = let z : _≡_ {A = ℕ} 0 1 = cc in absurd (omega arith)
-
--- Where each word is good, none is found to be bad.
-pub none-bad : (at i : ℕ) (words : List Bool) → ((j : ℕ) → j < length words → getD words j true ≡ true) → firstBad at i words ≡ found.None
-unfolding firstBad
-none-bad at i [] h = refl
-none-bad at i (good ∷ rest) h =
-    rw (h 0 (omega arith)) (none-bad at (suc i) rest (λ j p. h (suc j) (omega arith)))

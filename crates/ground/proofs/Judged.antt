@@ -96,6 +96,12 @@ unfolding firstBad every
 all-good [] e = refl
 all-good (j ∷ rest) e = rw (and-left (j .good) _ e) (all-good rest (and-right (j .good) _ e))
 
+-- Where nothing before a place breaks the rule, and what stands there does, that place is found.
+pub bad-first : (looked : List Judged) (place : ℕ) → FirstBad looked place → firstBad looked ≡ found.At place
+unfolding firstBad
+bad-first looked place b =
+    rw (b .split, bad-append (b .before) (judged place false ∷ b .after), all-good (b .before) (b .kept))
+
 -- The same of what each of n things has.
 
 module _ (f : ℕ → List Judged) (n : ℕ) where

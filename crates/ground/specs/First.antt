@@ -1,7 +1,6 @@
 -- "first such word": the first of numbered places at which something is found.
-use Prim.Native.Nat.{ℕ, zero, suc, _+_}
-use mathlib.Core.Bool.{Bool, true, false, cond}
-use mathlib.Core.List.{List, [], _∷_}
+use Prim.Native.Nat.{ℕ, zero, suc}
+use mathlib.Core.Bool.{Bool, cond}
 use Rattle.ground.specs.declared.Found.{Found}
 use Rattle.ground.specs.declared.Found.the-variants as found
 
@@ -18,8 +17,3 @@ foundIf test place = cond test (found.At place) found.None
 unfoldable pub firstFrom : (ℕ → Found) → ℕ → ℕ → Found
 firstFrom f k zero = found.None
 firstFrom f k (suc left) = orElse (f k) (firstFrom f (suc k) left)
-
--- of the words of a record at `at`, from word i on, the first that is not good
-unfoldable pub firstBad : ℕ → ℕ → List Bool → Found
-firstBad at i [] = found.None
-firstBad at i (good ∷ rest) = cond good (firstBad at (suc i) rest) (found.At (at + i))

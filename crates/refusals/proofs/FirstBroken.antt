@@ -11,7 +11,7 @@ use Rattle.ground.specs.First.{orElse}
 use Rattle.ground.specs.Each.{every}
 use Rattle.ground.specs.Judged.{Judged, judged, firstBad, FirstBad}
 use Rattle.ground.proofs.Each.{and-left, and-right, and-both}
-use Rattle.ground.proofs.Judged.{bad-append, first-bad, none-bad, all-good}
+use Rattle.ground.proofs.Judged.{first-bad, none-bad, all-good, bad-first}
 use Rattle.refusals.specs.declared.Answer.{Answer}
 use Rattle.refusals.specs.declared.Verdict.{Verdict}
 use Rattle.refusals.specs.declared.Verdict.the-variants.{Passed, Refused}
@@ -77,12 +77,6 @@ kept-first code looked rest e = by (firstBad looked) refl e
 pub first-kept : (code : ℕ) (looked : List Judged) (rest : List Rule) → firstBad looked ≡ found.None → firstBroken rest ≡ Passed → firstBroken (rule code looked ∷ rest) ≡ Passed
 unfolding firstBroken
 first-kept code looked rest p q = rw p q
-
--- What is found at the first place that breaks a rule.
-pub bad-first : (looked : List Judged) (place : ℕ) → FirstBad looked place → firstBad looked ≡ found.At place
-unfolding firstBad
-bad-first looked place b =
-    rw (b .split, bad-append (b .before) (judged place false ∷ b .after), all-good (b .before) (b .kept))
 
 no-verdict : {P : Type 0} (code place : ℕ) → Passed ≡ Refused code place → P
 no-verdict code place e = let z : _≡_ {A = ℕ} 0 1 = cc in absurd (omega arith)

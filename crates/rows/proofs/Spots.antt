@@ -1,7 +1,7 @@
 -- The rows that spots touch: of two lists one after the other, of one spot, and of ink down a column and along a row.
 use native.Mathlib.Omega.{arith}
 use Prim.Native.Nat.{ℕ, zero, suc, _+_, _-_, _≤_, _<_, min, max}
-use mathlib.Core.Bool.{Bool, true, false, _&&_, _||_}
+use mathlib.Core.Bool.{Bool, true, false, _&&_, _||_, and-true, and-false, or-false}
 use mathlib.Core.List.{List, [], _∷_, _++_, map}
 use mathlib.Core.Path.{_≡_, refl, sym, _∙_, ap}
 use lib.Dec.{leb, ltb, eqb}
@@ -16,18 +16,6 @@ use Rattle.rows.specs.Spots.{Ink, Spot, at, inks, spotTouches, touches}
 use Rattle.rows.specs.Window.{joinRows, touchedRows}
 use Rattle.rows.specs.Computed.{windowRows}
 use Rattle.rows.proofs.Windows.{touched-or, touched-same, touched-none, window-rows, window-row}
-
-and-true : (b : Bool) → b && true ≡ b
-and-true true = refl
-and-true false = refl
-
-and-false : (b : Bool) → b && false ≡ false
-and-false true = refl
-and-false false = refl
-
-or-false : (b : Bool) → b || false ≡ b
-or-false true = refl
-or-false false = refl
 
 module _ (ranges : List ℕ) where
   -- Two lists one after the other.

@@ -2,7 +2,7 @@
 -- the code's clipping come to.
 use native.Mathlib.Omega.{arith}
 use Prim.Native.Nat.{ℕ, zero, suc, _+_, _-_, _≤_, _<_, min, max}
-use mathlib.Core.Bool.{Bool, true, false, not, cond, _&&_, _||_}
+use mathlib.Core.Bool.{Bool, true, false, not, cond, _&&_, _||_, and-false}
 use mathlib.Core.Path.{_≡_, refl, sym, _∙_, ap}
 use lib.Dec.{leb, ltb, eqb}
 use borrow.Author.Tests.{le-leb, lt-leb, lt-ltb, le-ltb, leb-true, leb-false, eq-eqb, ne-eqb}
@@ -245,7 +245,3 @@ window-row w r = window-rows w r r ∙ touched-same w (λ y. leb r y && leb y r)
         (λ o. by-order y r
         (λ p. rw (lt-leb _ _ p) (sym (ne-eqb r y (λ e. omega arith))))
         (λ p. let e : r ≡ y = omega arith in rw (le-leb _ _ o, le-leb _ _ p) (sym (eq-eqb _ _ e))))
-      where
-        and-false : (b : Bool) → b && false ≡ false
-        and-false true = refl
-        and-false false = refl

@@ -2,4 +2,3 @@
 pub mod Spots
 pub mod Window
 pub mod Computed
-pub mod SheetRows

@@ -2,7 +2,6 @@
 ghost use mathlib.Core.Path.{_≡_};
 ghost use Rattle.rows.specs.Window.{joinRows, inWindow};
 ghost use Rattle.rows.specs.Computed.{windowRows, rowsWithin};
-ghost use Rattle.rows.specs.SheetRows.{sheetRows};
 
 // Rows of the sheet, side by side: all of them, or a band.
 pub struct Window {
@@ -60,21 +59,6 @@ impl Window {
         let top = self.first;
         if top <= y { y - top < self.rows } else { false }
     }
-}
-
-// The rows of the sheet among those from a to b.
-pub fn sheet_rows(height: usize, a: usize, b: usize) -> Rows
-    ensures { λ r. ⌜ r ≡ sheetRows height a b ⌝ }
-{
-    if a <= b {
-        if a < height {
-            return Rows::From {
-                first: a,
-                last: ground::min(b, height - 1),
-            };
-        }
-    }
-    Rows::None
 }
 
 impl Rows {
