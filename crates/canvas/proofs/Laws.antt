@@ -1,7 +1,7 @@
 -- Laws over plain values, which the functions' proofs and the theorems cite.
 use Prim.Native.Nat.{ℕ, _+_, _-_, _≤_, _<_}
 use mathlib.Core.Path.{_≡_, refl, sym}
-use mathlib.Core.Bool.{Bool, true, false, _&&_}
+use mathlib.Core.Bool.{Bool, true, false, and-false}
 use mathlib.Core.List.{List, [], _∷_}
 use lib.ListN.{length, getD, set, List·getD-eq-default}
 use borrow.Author.Tests.{le-ltb, lt-ltb, eq-eqb, ne-eqb}
@@ -55,11 +55,6 @@ pub no-continuation :
 unfolding isContinuation
 no-continuation word p e h = rw (← e) (continuation-of-parts p h)
 
--- a test that fails fails together with any other
-and-false : (test : Bool) → test && false ≡ false
-and-false true = refl
-and-false false = refl
-
 -- a column past the row's end is no continuation
 pub past-end : (x : ℕ) (row : List ℕ) → length row ≤ x → isContinuation (getD row x 0) ≡ false
 unfolding isContinuation read
@@ -68,46 +63,67 @@ past-end x row h = rw (List·getD-eq-default row 0 h)
 module _ (row ranges : List ℕ) (x : ℕ) where
   -- a wide lead with its continuation: the continuation is emptied
   pub emptied :
-      isWideLead (getD row x 0) ranges ≡ true →
-      isContinuation (getD row (x + 1) 0) ≡ true →
+      (lead next : Bool) →
+      lead ≡ isWideLead (getD row x 0) ranges →
+      next ≡ isContinuation (getD row (x + 1) 0) →
+      lead ≡ true →
+      next ≡ true →
       set row (x + 1) 0 ≡ emptyContinuation row ranges x
   unfolding emptyContinuation pack
-  emptied lead next = simp (lead, next)
+  emptied lead next e f p q = rw (← e, ← f, p, q)
 
   -- what is no wide lead has nothing to empty
-  pub no-lead-here : isWideLead (getD row x 0) ranges ≡ false → row ≡ emptyContinuation row ranges x
+  pub no-lead-here :
+      (lead : Bool) →
+      lead ≡ isWideLead (getD row x 0) ranges →
+      lead ≡ false →
+      row ≡ emptyContinuation row ranges x
   unfolding emptyContinuation
-  no-lead-here h = simp h
+  no-lead-here lead e h = rw (← e, h)
 
   -- and nor has a wide lead without its continuation
-  pub no-continuation-next : isContinuation (getD row (x + 1) 0) ≡ false → row ≡ emptyContinuation row ranges x
+  pub no-continuation-next :
+      (next : Bool) →
+      next ≡ isContinuation (getD row (x + 1) 0) →
+      next ≡ false →
+      row ≡ emptyContinuation row ranges x
   unfolding emptyContinuation
-  no-continuation-next h = simp (h, and-false)
+  no-continuation-next next e h = rw (← e, h, and-false)
 
   -- and nor has the last column
   pub last-column : length row ≤ x + 1 → row ≡ emptyContinuation row ranges x
-  last-column h = no-continuation-next (past-end (x + 1) row h)
+  last-column h = no-continuation-next _ refl (past-end (x + 1) row h)
 
   -- a continuation with its lead: the lead becomes a space
   pub blanked :
-      (cell : ℕ) →
+      (cell : ℕ) (here lead : Bool) →
       cell ≡ pack (Text space) →
       0 < x →
-      isContinuation (getD row x 0) ≡ true →
-      isWideLead (getD row (x - 1) 0) ranges ≡ true →
+      here ≡ isContinuation (getD row x 0) →
+      lead ≡ isWideLead (getD row (x - 1) 0) ranges →
+      here ≡ true →
+      lead ≡ true →
       set row (x - 1) cell ≡ blankLead row ranges x
   unfolding blankLead
-  blanked cell e h here lead = simp (e, here, lt-ltb _ _ h, lead)
+  blanked cell here lead blank h e f p q = rw (blank, ← e, ← f, p, q, lt-ltb _ _ h)
 
   -- what is no continuation has no lead
-  pub no-continuation-here : isContinuation (getD row x 0) ≡ false → row ≡ blankLead row ranges x
+  pub no-continuation-here :
+      (here : Bool) →
+      here ≡ isContinuation (getD row x 0) →
+      here ≡ false →
+      row ≡ blankLead row ranges x
   unfolding blankLead
-  no-continuation-here h = simp h
+  no-continuation-here here e h = rw (← e, h)
 
   -- and nor has a continuation after another cell
-  pub no-lead-before : isWideLead (getD row (x - 1) 0) ranges ≡ false → row ≡ blankLead row ranges x
+  pub no-lead-before :
+      (lead : Bool) →
+      lead ≡ isWideLead (getD row (x - 1) 0) ranges →
+      lead ≡ false →
+      row ≡ blankLead row ranges x
   unfolding blankLead
-  no-lead-before h = simp (h, and-false)
+  no-lead-before lead e h = simp (← e, h, and-false)
 
   -- and nor has the first column
   pub first-column : x ≤ 0 → row ≡ blankLead row ranges x
@@ -122,22 +138,32 @@ module _ (row ranges : List ℕ) (x : ℕ) where
 
     -- any other cell is written after its neighbours are mended
     pub put-other :
-        (mended : List ℕ) →
+        (emptied mended : List ℕ) →
         (getD row x 0 ≡ new → ⊥) →
-        mended ≡ blankLead (emptyContinuation row ranges x) ranges x →
+        emptied ≡ emptyContinuation row ranges x →
+        mended ≡ blankLead emptied ranges x →
         set mended x new ≡ put row ranges x new
     unfolding put
-    put-other mended n e = simp (ne-eqb _ _ n, e)
+    put-other emptied mended n e f = rw (ne-eqb _ _ n, f, e)
+
+    -- a row into which a cell was put, where that cell is this one
+    pub put-this :
+        (cell : ℕ) (last : List ℕ) →
+        last ≡ put row ranges x cell →
+        cell ≡ new →
+        last ≡ put row ranges x new
+    put-this cell last e f = rw (← f) e
 
 module _ (row ranges : List ℕ) (x ch : ℕ) where
   -- a wide glyph with a column to its right is a lead and a continuation
   pub wide-inside :
-      (last : List ℕ) →
+      (lead last : List ℕ) →
       x + 1 < length row →
-      last ≡ put (letterRow row ranges x ch) ranges (x + 1) 0x40200000 →
+      lead ≡ letterRow row ranges x ch →
+      last ≡ put lead ranges (x + 1) 0x40200000 →
       last ≡ wideRow row ranges x ch
   unfolding wideRow pack
-  wide-inside last h e = simp (lt-ltb _ _ h) e
+  wide-inside lead last h e f = rw (lt-ltb _ _ h, ← e) f
 
   -- a wide glyph in the last column is a space
   pub wide-last :

@@ -93,7 +93,7 @@ pub put-off : (row ranges : List ℕ) (x new : ℕ) → length row ≤ x → put
 unfolding put
 put-off row ranges x new h =
     let e : row ≡ emptyContinuation row ranges x = last-column row ranges x (omega arith) in
-    let b : row ≡ blankLead row ranges x = no-continuation-here row ranges x (past-end x row h) in
+    let b : row ≡ blankLead row ranges x = no-continuation-here row ranges x _ refl (past-end x row h) in
     cond-holds (λ (r : List ℕ). r ≡ row) (eqb (getD row x 0) new)
     refl
     (rw (← e, ← b) (set-out row x new h))

@@ -5,13 +5,15 @@ use Rattle.canvas.proofs.row.empty_continuation.Statement.{statement}
 use Rattle.canvas.proofs.row.empty_continuation.Tie as tie
 
 returns : tie.Need-returns
-returns c = emptied _ _ _ (cc) (cc)
+returns c =
+    let outer = c .before .before .before in
+    emptied _ _ _ _ _ (outer .before .is-wide-lead .ensures) (c .before .is-continuation .ensures) (outer .if2 .taken) (c .if3 .taken)
 
 returns-2 : tie.Need-returns-2
-returns-2 c = no-continuation-next _ _ _ (cc)
+returns-2 c = no-continuation-next _ _ _ _ (c .before .is-continuation .ensures) (c .if3 .left)
 
 returns-3 : tie.Need-returns-3
-returns-3 c = no-lead-here _ _ _ (cc)
+returns-3 c = no-lead-here _ _ _ _ (c .before .is-wide-lead .ensures) (c .if2 .left)
 
 returns-4 : tie.Need-returns-4
 returns-4 c = last-column _ _ _ (c .if1 .left)

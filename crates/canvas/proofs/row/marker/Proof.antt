@@ -2,13 +2,14 @@
 use borrow.Author.Needs.{needs}
 use mathlib.Core.Path.{sym}
 use Rattle.canvas.specs.Row.{markerRow}
+use Rattle.canvas.proofs.Laws.{put-this}
 use Rattle.canvas.proofs.Theorems.{marker-off}
 use Rattle.canvas.proofs.row.marker.Statement.{statement}
 use Rattle.canvas.proofs.row.marker.Tie as tie
 
 returns : tie.Need-returns
 unfolding markerRow
-returns c = cc
+returns c = put-this _ _ _ _ _ _ (c .before .before .put .ensures) (search needs)
 
 returns-2 : tie.Need-returns-2
 returns-2 c = sym (marker-off _ _ _ _ _ _ (c .if1 .left))

@@ -12,7 +12,7 @@ same-length : tie.Need-same-length
 same-length c = simp length-set (search needs)
 
 returns-2 : tie.Need-returns-2
-returns-2 c = put-other _ _ _ _ (c .before .before .blank-lead .last .0) (search needs) (cc)
+returns-2 c = put-other _ _ _ _ _ _ (search needs) (search needs) (c .before .before .blank-lead .ensures)
 
 pub put-spec : {M : Type 1} → statement M
 put-spec =

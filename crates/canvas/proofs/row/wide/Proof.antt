@@ -7,7 +7,7 @@ use Rattle.canvas.proofs.row.wide.Statement.{statement}
 use Rattle.canvas.proofs.row.wide.Tie as tie
 
 returns : tie.Need-returns
-returns c = wide-inside _ _ _ _ _ (search needs) (cc)
+returns c = wide-inside _ _ _ _ _ _ (search needs) (search needs) (c .before .before .put .ensures)
 
 returns-2 : tie.Need-returns-2
 returns-2 c = wide-last _ _ _ _ _ (search needs) (search needs)
