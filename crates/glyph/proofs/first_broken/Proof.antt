@@ -1,7 +1,7 @@
 -- `first_broken` finds the first range that breaks the rule. The invariant: what is found of the ranges left is what is found of all. The measure: how many are left.
 use borrow.Author.Needs.{needs}
 use Prim.Native.Nat.{_-_}
-use mathlib.Core.Path.{_≡_}
+use mathlib.Core.Path.{_≡_, sym, _∙_}
 use Rattle.ground.specs.Each.{numbers, each}
 use Rattle.ground.specs.Judged.{firstBad}
 use Rattle.ground.proofs.Judged.{look-whole, look-again, look-hit, look-done}
@@ -24,12 +24,12 @@ loop-holds c = look-whole _ _
 returns : tie.Need-returns Inv-loop μ-loop
 returns c =
     let l = c .before .before .before .loop in
-    look-hit _ _ _ _ _ (search needs) (l .inv) (range-hit (λ n. n) _ (l .k) (cc))
+    look-hit _ _ _ _ _ (search needs) (l .inv) (range-hit (λ n. n) _ (l .k) (sym (c .before .range-broken .ensures) ∙ c .if1 .taken))
 
 loop-again : tie.Need-loop-again Inv-loop μ-loop
 loop-again c =
     let l = c .before .before .before .loop in
-    look-again _ _ _ _ (search needs) (l .inv) (range-kept (λ n. n) _ (l .k) (cc))
+    look-again _ _ _ _ (search needs) (l .inv) (range-kept (λ n. n) _ (l .k) (sym (c .before .range-broken .ensures) ∙ c .if1 .left))
 
 returns-2 : tie.Need-returns-2 Inv-loop μ-loop
 returns-2 c = look-done _ _ _ _ (search needs) (c .before .loop .inv)

@@ -6,7 +6,13 @@ use Rattle.glyph.proofs.holds_fixed.Tie as tie
 
 returns : tie.Need-returns
 unfolding holdsFixed
-returns c = cc
+returns c =
+    rw (
+      c .before .before .before .holds .ensures,
+      c .before .before .holds2 .ensures,
+      c .before .holds3 .ensures,
+      c .holds4 .ensures,
+    )
 
 pub holds-fixed-spec : {M : Type 1} → statement M
 holds-fixed-spec =

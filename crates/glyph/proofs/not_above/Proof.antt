@@ -6,7 +6,7 @@ use Rattle.glyph.proofs.not_above.Tie as tie
 
 returns : tie.Need-returns
 unfolding notAbove
-returns c = cc
+returns c = rw (c .before .before .minus .ensures)
 
 pub not-above-spec : {M : Type 1} → statement M
 not-above-spec =

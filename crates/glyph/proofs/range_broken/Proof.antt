@@ -6,7 +6,7 @@ use Rattle.glyph.proofs.range_broken.Tie as tie
 
 returns : tie.Need-returns
 unfolding rangeBroken
-returns c = cc
+returns c = rw (c .before .not-above .ensures, c .holds-fixed .ensures)
 
 pub range-broken-spec : {M : Type 1} → statement M
 range-broken-spec =
