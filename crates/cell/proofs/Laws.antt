@@ -19,8 +19,9 @@ use Rattle.cell.specs.declared.Parts.{Parts}
 use Rattle.cell.specs.declared.Parts.the-variants.{Empty, Text, Continuation, Stroke, Marker}
 use Rattle.cell.specs.OneCell.{weightNumber, markerNumber, dirNumber, weightOf, markerOf, dirOf}
 use Rattle.cell.specs.OneCell.{packArms, packMarker, pack, readArms, readText, readMarker, read, Valid}
-use Rattle.cell.specs.OneCell.{heavier, hasDouble, doubleOnMarker, stroked, marked}
+use Rattle.cell.specs.OneCell.{heavier, hasDouble, doubleOnMarker, doubleOn, stroked, marked}
 use Rattle.cell.proofs.Parts.{the-type}
+use Rattle.cell.proofs.MarkerKind as markerKind
 
 -- the heavier of two weights, where the first is it
 pub heavier-first : (a b : Weight) → weightNumber b ≤ weightNumber a → a ≡ heavier a b
@@ -45,6 +46,62 @@ marked-rest kind dir dashed (Text ch) h = absurd (miss no-text 1 tt h)
 marked-rest kind dir dashed Continuation h = absurd (miss no-text 2 tt h)
 marked-rest kind dir dashed (Stroke arms) h = refl
 marked-rest kind dir dashed (Marker k d x) h = refl
+
+-- the numbers of the variants of `Parts` that are no marker
+abbrev others : List ℕ
+others = 0 ∷ 1 ∷ 2 ∷ 3 ∷ []
+
+-- a stroke with a Double arm replaces them
+pub no-marker : (new : Arms) (p : Parts) → OneOf others (tagOf the-type p) → Stroke new ≡ doubleOn p new
+unfolding doubleOn
+no-marker new Empty h = refl
+no-marker new (Text ch) h = refl
+no-marker new Continuation h = refl
+no-marker new (Stroke arms) h = refl
+no-marker new (Marker k d x) h = absurd (miss others 4 tt h)
+
+-- the numbers of the kinds of marker that are no Arrow
+abbrev no-arrow : List ℕ
+no-arrow = 1 ∷ 2 ∷ []
+
+-- it replaces markers of these kinds
+pub other-kind :
+    (new : Arms) (dir : Dir) (dashed : Bool) (kind : MarkerKind) (p : Parts) →
+    OneOf no-arrow (tagOf markerKind.the-type kind) →
+    p ≡ Marker kind dir dashed →
+    Stroke new ≡ doubleOn p new
+unfolding doubleOn doubleOnMarker
+other-kind new dir dashed Arrow p h e = absurd (miss no-arrow 0 tt h)
+other-kind new dir dashed SelfLoop p h e = rw e
+other-kind new dir dashed Dummy p h e = rw e
+
+-- the numbers of the variants of `Parts` that are text or a marker
+abbrev text-or-marker : List ℕ
+text-or-marker = 1 ∷ 2 ∷ 4 ∷ []
+
+module _ (new : Arms) (double : Bool) (e : double ≡ hasDouble new) where
+  -- a stroke on text or a marker, with a Double arm
+  pub stroked-over :
+      (r p : Parts) →
+      OneOf text-or-marker (tagOf the-type p) →
+      double ≡ true →
+      r ≡ doubleOn p new →
+      r ≡ stroked p new
+  unfolding stroked doubleOn
+  stroked-over r Empty h d f = absurd (miss text-or-marker 0 tt h)
+  stroked-over r (Text ch) h d f = rw (← e, d) f
+  stroked-over r Continuation h d f = rw (← e, d) f
+  stroked-over r (Stroke arms) h d f = absurd (miss text-or-marker 3 tt h)
+  stroked-over r (Marker k i x) h d f = rw (← e, d) f
+
+  -- and without one
+  pub stroked-kept : (p : Parts) → OneOf text-or-marker (tagOf the-type p) → double ≡ false → p ≡ stroked p new
+  unfolding stroked
+  stroked-kept Empty h d = absurd (miss text-or-marker 0 tt h)
+  stroked-kept (Text ch) h d = rw (← e, d)
+  stroked-kept Continuation h d = rw (← e, d)
+  stroked-kept (Stroke arms) h d = absurd (miss text-or-marker 3 tt h)
+  stroked-kept (Marker k i x) h d = rw (← e, d)
 
 -- The numbers are small, and what they stand for is what they are the numbers of.
 

@@ -3,7 +3,7 @@ ghost use mathlib.Core.Path.{_≡_};
 ghost use Prim.Native.Nat.{_<_, _≤_};
 ghost use Rattle.cell.specs.OneCell.{weightNumber, markerNumber, dirNumber, weightOf, markerOf, dirOf};
 ghost use Rattle.cell.specs.OneCell.{vertical, horizontal, packArms, packMarker, pack, readArms, readText, readMarker, read};
-ghost use Rattle.cell.specs.OneCell.{heavier, heavierArms, isDouble, hasDouble, stem, doubleOnMarker};
+ghost use Rattle.cell.specs.OneCell.{heavier, heavierArms, isDouble, hasDouble, stem, doubleOn};
 ghost use Rattle.cell.specs.OneCell.{stroked, marked, paintedStroke, paintedMarker, paintedText};
 
 // The weight of one arm of a stroke.
@@ -301,14 +301,11 @@ impl Parts {
     pub fn stroked(self, new: Arms) -> Parts
         ensures { λ r. ⌜ r ≡ stroked self new ⌝ }
     {
-        let double = new.has_double();
         match self {
             Parts::Empty => Parts::Stroke(new),
             Parts::Stroke(old) => Parts::Stroke(old.max(new)),
-            Parts::Text(ch) => if double { Parts::Stroke(new) } else { self },
-            Parts::Continuation => if double { Parts::Stroke(new) } else { self },
-            Parts::Marker { kind, dir, dashed } => if double {
-                double_on_marker(new, kind, dir)
+            _ => if new.has_double() {
+                double_on(self, new)
             } else {
                 self
             },
@@ -361,14 +358,16 @@ fn read_marker(word: u32) -> Parts
     }
 }
 
-// A stroke with a Double arm on a marker: an Arrow first becomes a stem, then merges; the other kinds are replaced.
-fn double_on_marker(new: Arms, kind: MarkerKind, dir: Dir) -> Parts
-    ensures { λ r. ⌜ r ≡ doubleOnMarker new kind dir ⌝ }
+// A stroke with a Double arm on text or a marker: an Arrow first becomes a stem, then merges; all others are replaced.
+fn double_on(old: Parts, new: Arms) -> Parts
+    ensures { λ r. ⌜ r ≡ doubleOn old new ⌝ }
 {
-    match kind {
-        MarkerKind::Arrow => Parts::Stroke(Arms::stem(dir).max(new)),
-        MarkerKind::SelfLoop => Parts::Stroke(new),
-        MarkerKind::Dummy => Parts::Stroke(new),
+    match old {
+        Parts::Marker { kind, dir, dashed } => match kind {
+            MarkerKind::Arrow => Parts::Stroke(Arms::stem(dir).max(new)),
+            _ => Parts::Stroke(new),
+        },
+        _ => Parts::Stroke(new),
     }
 }
 
