@@ -31,21 +31,32 @@ heavier-first a b h = simp (le-leb _ _ h)
 pub heavier-second : (a b : Weight) → weightNumber a < weightNumber b → b ≡ heavier a b
 heavier-second a b h = simp (lt-leb _ _ h)
 
--- the numbers of the variants of `Parts` that are neither text nor a continuation
+-- the numbers of the variants of `Parts` that are text or a continuation, and of the others
+
+abbrev any-text : List ℕ
+any-text = 1 ∷ 2 ∷ []
+
 abbrev no-text : List ℕ
 no-text = 0 ∷ 3 ∷ 4 ∷ []
 
--- a marker on what is neither text nor a continuation
-pub marked-rest :
-    (kind : MarkerKind) (dir : Dir) (dashed : Bool) (p : Parts) →
-    OneOf no-text (tagOf the-type p) →
-    Marker kind dir dashed ≡ marked p kind dir dashed
-unfolding marked
-marked-rest kind dir dashed Empty h = refl
-marked-rest kind dir dashed (Text ch) h = absurd (miss no-text 1 tt h)
-marked-rest kind dir dashed Continuation h = absurd (miss no-text 2 tt h)
-marked-rest kind dir dashed (Stroke arms) h = refl
-marked-rest kind dir dashed (Marker k d x) h = refl
+module _ (kind : MarkerKind) (dir : Dir) (dashed : Bool) where
+  -- a marker on text or a continuation
+  pub marked-kept : (p : Parts) → OneOf any-text (tagOf the-type p) → p ≡ marked p kind dir dashed
+  unfolding marked
+  marked-kept Empty h = absurd (miss any-text 0 tt h)
+  marked-kept (Text ch) h = refl
+  marked-kept Continuation h = refl
+  marked-kept (Stroke arms) h = absurd (miss any-text 3 tt h)
+  marked-kept (Marker k d x) h = absurd (miss any-text 4 tt h)
+
+  -- a marker on what is neither
+  pub marked-rest : (p : Parts) → OneOf no-text (tagOf the-type p) → Marker kind dir dashed ≡ marked p kind dir dashed
+  unfolding marked
+  marked-rest Empty h = refl
+  marked-rest (Text ch) h = absurd (miss no-text 1 tt h)
+  marked-rest Continuation h = absurd (miss no-text 2 tt h)
+  marked-rest (Stroke arms) h = refl
+  marked-rest (Marker k d x) h = refl
 
 -- the numbers of the variants of `Parts` that are no marker
 abbrev others : List ℕ

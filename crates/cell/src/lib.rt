@@ -305,7 +305,7 @@ impl Parts {
             Parts::Empty => Parts::Stroke(new),
             Parts::Stroke(old) => Parts::Stroke(old.max(new)),
             _ => if new.has_double() {
-                double_on(self, new)
+                Parts::Stroke(double_on(self, new))
             } else {
                 self
             },
@@ -317,8 +317,7 @@ impl Parts {
         ensures { λ r. ⌜ r ≡ marked self kind dir dashed ⌝ }
     {
         match self {
-            Parts::Text(ch) => self,
-            Parts::Continuation => self,
+            Parts::Text(_) | Parts::Continuation => self,
             _ => Parts::Marker {
                 kind: kind,
                 dir: dir,
@@ -358,16 +357,16 @@ fn read_marker(word: u32) -> Parts
     }
 }
 
-// A stroke with a Double arm on text or a marker: an Arrow first becomes a stem, then merges; all others are replaced.
-fn double_on(old: Parts, new: Arms) -> Parts
-    ensures { λ r. ⌜ r ≡ doubleOn old new ⌝ }
+// What a stroke with a Double arm leaves on text or a marker: an Arrow first becomes a stem, then merges; all others are replaced.
+fn double_on(old: Parts, new: Arms) -> Arms
+    ensures { λ r. ⌜ Parts.Stroke r ≡ doubleOn old new ⌝ }
 {
     match old {
-        Parts::Marker { kind, dir, dashed } => match kind {
-            MarkerKind::Arrow => Parts::Stroke(Arms::stem(dir).max(new)),
-            _ => Parts::Stroke(new),
+        Parts::Marker { kind, dir, .. } => match kind {
+            MarkerKind::Arrow => Arms::stem(dir).max(new),
+            _ => new,
         },
-        _ => Parts::Stroke(new),
+        _ => new,
     }
 }
 
