@@ -102,9 +102,7 @@ fn letter(row: &mut [u32], ranges: &[u32], x: usize, ch: u32)
     ensures { λ _. ⌜ now (row .exit) ≡ letterRow (now (row .entry)) (now (ranges .entry)) x ch ⌝ }
 {
     if x < row.len() {
-        let old = Cell(row[x]);
-        let new = old.painted_text(ch);
-        put(row, ranges, x, new.0);
+        put(row, ranges, x, Cell::text(ch).0);
     }
 }
 
@@ -112,14 +110,13 @@ fn letter(row: &mut [u32], ranges: &[u32], x: usize, ch: u32)
 fn wide(row: &mut [u32], ranges: &[u32], x: usize, ch: u32)
     ensures { λ _. ⌜ now (row .exit) ≡ wideRow (now (row .entry)) (now (ranges .entry)) x ch ⌝ }
 {
-    if x < row.len() {
+    let columns = ground::minus(row.len(), x);
+    if 1 < columns {
         let next = x + 1;
-        if next < row.len() {
-            letter(row, ranges, x, ch);
-            put(row, ranges, next, Cell::CONTINUATION.0);
-        } else {
-            letter(row, ranges, x, SPACE);
-        }
+        letter(row, ranges, x, ch);
+        put(row, ranges, next, Cell::CONTINUATION.0);
+    } else {
+        letter(row, ranges, x, SPACE);
     }
 }
 

@@ -1,8 +1,6 @@
--- `wide` puts a lead and a continuation, a space in the last column, and nothing off the row.
+-- `wide` puts a lead and a continuation, and a space in the last column.
 use borrow.Author.Needs.{needs}
-use mathlib.Core.Path.{sym}
 use Rattle.canvas.proofs.Laws.{wide-inside, wide-last}
-use Rattle.canvas.proofs.Theorems.{wide-off}
 use Rattle.canvas.proofs.row.wide.Statement.{statement}
 use Rattle.canvas.proofs.row.wide.Tie as tie
 
@@ -12,13 +10,11 @@ returns c = wide-inside _ _ _ _ _ _ (search needs) (search needs) (c .before .be
 returns-2 : tie.Need-returns-2
 returns-2 c = wide-last _ _ _ _ _ (search needs) (search needs)
 
-returns-3 : tie.Need-returns-3
-returns-3 c = sym (wide-off _ _ _ _ (c .if1 .left))
-
 pub wide-spec : {M : Type 1} → statement M
 wide-spec =
     tie.close
     (tie.spec
+    (λ c κs. search needs)
     (λ c. search needs)
     (λ c κs. search needs)
     (λ c κs. search needs)
@@ -26,5 +22,4 @@ wide-spec =
     (λ c. search needs)
     returns
     (λ c. search needs)
-    returns-2
-    returns-3)
+    returns-2)
