@@ -65,29 +65,28 @@ module _ (a t : Point) where
 
 -- The marker of one end: not wanted, on a slanted leg, inside a long leg, on the only leg, and at the bend.
 
-module _ (wanted only : Bool) (at next : Point) (r : EndMark) where
-  pub end-unwanted : wanted ≡ false → r ≡ end.None → r ≡ endMark wanted only at next
+module _ (wanted only : Bool) (at next : Point) where
+  pub end-unwanted : wanted ≡ false → end.None ≡ endMark wanted only at next
   unfolding endMark
-  end-unwanted p e = rw p e
+  end-unwanted p = rw p
 
-  module _ (p : wanted ≡ true) where
-    pub end-slanted : straight at next ≡ false → r ≡ end.None → r ≡ endMark wanted only at next
+  module _ (along : Bool) (p : wanted ≡ true) (s : along ≡ straight at next) where
+    pub end-slanted : along ≡ false → end.None ≡ endMark wanted only at next
     unfolding endMark
-    end-slanted q e = rw (p, q) e
+    end-slanted q = rw (p, ← s, q)
 
-    module _ (q : straight at next ≡ true) where
-      pub end-inside : long at next ≡ true → r ≡ markFacing (inside at next) at → r ≡ endMark wanted only at next
+    module _ (far : Bool) (q : along ≡ true) (t : far ≡ long at next) where
+      pub end-inside : (cell : Point) (r : EndMark) → far ≡ true → cell ≡ inside at next → r ≡ markFacing cell at → r ≡ endMark wanted only at next
       unfolding endMark
-      end-inside l e = rw (p, q, l) e
+      end-inside cell r l i e = rw (p, ← s, q, ← t, l, ← i) e
 
-      module _ (l : long at next ≡ false) where
-        pub end-only : only ≡ true → r ≡ end.None → r ≡ endMark wanted only at next
-        unfolding endMark
-        end-only o e = rw (p, q, l, o) e
+      pub end-only : far ≡ false → only ≡ true → end.None ≡ endMark wanted only at next
+      unfolding endMark
+      end-only l o = rw (p, ← s, q, ← t, l, o)
 
-        pub end-bend : only ≡ false → r ≡ markFacing next at → r ≡ endMark wanted only at next
-        unfolding endMark
-        end-bend o e = rw (p, q, l, o) e
+      pub end-bend : (r : EndMark) → far ≡ false → only ≡ false → r ≡ markFacing next at → r ≡ endMark wanted only at next
+      unfolding endMark
+      end-bend r l o e = rw (p, ← s, q, ← t, l, o) e
 
 -- The marker in a cell, or else what is drawn there.
 

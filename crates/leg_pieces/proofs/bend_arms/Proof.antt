@@ -1,12 +1,8 @@
 -- `bend_arms` gives the arms toward both neighbours.
 use borrow.Author.Needs.{needs}
-use Rattle.orthogonal.specs.Orthogonal.{bendArms}
+use Rattle.leg_pieces.proofs.Laws.{both-arms}
 use Rattle.leg_pieces.proofs.bend_arms.Statement.{statement}
 use Rattle.leg_pieces.proofs.bend_arms.Tie as tie
-
-returns : tie.Need-returns
-unfolding bendArms
-returns c = cc
 
 pub bend-arms-spec : {M : Type 1} → statement M
 bend-arms-spec =
@@ -17,4 +13,4 @@ bend-arms-spec =
     (λ c κs. search needs)
     (λ c κs. search needs)
     (λ c κs. search needs)
-    returns)
+    (λ c. search (both-arms, needs)))

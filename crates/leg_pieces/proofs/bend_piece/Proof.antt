@@ -1,12 +1,8 @@
 -- `bend_piece` gives the arrow at a stop, the target's first, or the bend.
 use borrow.Author.Needs.{needs}
-use Rattle.orthogonal.specs.Orthogonal.{bendPiece}
+use Rattle.leg_pieces.proofs.Laws.{bend-of}
 use Rattle.leg_pieces.proofs.bend_piece.Statement.{statement}
 use Rattle.leg_pieces.proofs.bend_piece.Tie as tie
-
-returns : tie.Need-returns
-unfolding bendPiece
-returns c = cc
 
 pub bend-piece-spec : {M : Type 1} → statement M
 bend-piece-spec =
@@ -17,4 +13,4 @@ bend-piece-spec =
     (λ c κs. search needs)
     (λ c κs. search needs)
     (λ c κs. search needs)
-    returns)
+    (λ c. search (bend-of, needs)))

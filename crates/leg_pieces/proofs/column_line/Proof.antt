@@ -1,12 +1,8 @@
 -- `column_line` is the interior of a leg along a column, the target's arrow before the source's.
 use borrow.Author.Needs.{needs}
-use Rattle.orthogonal.specs.Orthogonal.{columnLine}
+use Rattle.leg_pieces.proofs.Laws.{along-column}
 use Rattle.leg_pieces.proofs.column_line.Statement.{statement}
 use Rattle.leg_pieces.proofs.column_line.Tie as tie
-
-returns : tie.Need-returns
-unfolding columnLine
-returns c = cc
 
 pub column-line-spec : {M : Type 1} → statement M
 column-line-spec =
@@ -18,4 +14,4 @@ column-line-spec =
     (λ c κs. search needs)
     (λ c κs. search needs)
     (λ c κs. search needs)
-    returns)
+    (λ c. search (along-column, needs)))

@@ -1,12 +1,8 @@
 -- `row_line` is the interior of a leg along a row, the target's arrow before the source's.
 use borrow.Author.Needs.{needs}
-use Rattle.orthogonal.specs.Orthogonal.{rowLine}
+use Rattle.leg_pieces.proofs.Laws.{along-row}
 use Rattle.leg_pieces.proofs.row_line.Statement.{statement}
 use Rattle.leg_pieces.proofs.row_line.Tie as tie
-
-returns : tie.Need-returns
-unfolding rowLine
-returns c = cc
 
 pub row-line-spec : {M : Type 1} → statement M
 row-line-spec =
@@ -18,4 +14,4 @@ row-line-spec =
     (λ c κs. search needs)
     (λ c κs. search needs)
     (λ c κs. search needs)
-    returns)
+    (λ c. search (along-row, needs)))
