@@ -32,7 +32,8 @@ use Rattle.flow.specs.declared.Piece.the-variants.{Nothing, Vertical, Horizonta
 use Rattle.flow.specs.Pieces.{pieceRunsIn, runsIn}
 use Rattle.y_flow.specs.YFlow.{bentY, cornerY, sideY, straightY, cornerRow, crossingY, legY}
 use Rattle.x_flow.specs.XFlow.{bentX, cornerX, sideX, straightX, cornerColumn, crossingX, legX}
-use Rattle.orthogonal.specs.Points.{pointCount, source, pathPoint, samePoint, stopsAfter, stops}
+use Rattle.image.specs.Spans.{pointCount}
+use Rattle.orthogonal.specs.Points.{source, pathPoint, samePoint, stopsAfter, stops}
 use Rattle.orthogonal.specs.Orthogonal.{legPieces, piecesAlong}
 use Rattle.path.specs.Pieces.{directOn, cornerOn, sideOn, legOn, multiPieces, piecesOf}
 use Rattle.path.specs.Touched.{edgeRuns}

@@ -15,7 +15,8 @@ use Rattle.flow.specs.declared.Piece.the-variants.{Nothing, Mark}
 use Rattle.orthogonal.specs.declared.PathLeg.{PathLeg}
 use Rattle.orthogonal.specs.declared.EndMark.{EndMark}
 use Rattle.orthogonal.specs.declared.EndMark.the-variants as end
-use Rattle.orthogonal.specs.Points.{pointCount, source, target, pointAt, pathPoint}
+use Rattle.image.specs.Spans.{pointCount, pointAt}
+use Rattle.orthogonal.specs.Points.{source, target, pathPoint}
 use Rattle.orthogonal.specs.Orthogonal.{toward, straight, long, inside, markFacing, endMark, markOr, columnLine, rowLine, legLine, bendPiece, legBendPiece}
 
 -- Point k of the path: the source, one of those between, the target.

@@ -18,7 +18,8 @@ use Rattle.orthogonal.specs.declared.Stop.the-variants as stop
 use Rattle.orthogonal.specs.declared.PathLeg.{PathLeg}
 use Rattle.orthogonal.specs.declared.Cursor.{Cursor}
 use Rattle.orthogonal.specs.declared.Step.the-variants as step
-use Rattle.orthogonal.specs.Points.{pointCount, source, pathPoint, pathPoints, samePoint, stopsAfter, stops, stopAt, legCount}
+use Rattle.image.specs.Spans.{pointCount}
+use Rattle.orthogonal.specs.Points.{source, pathPoint, pathPoints, samePoint, stopsAfter, stops, stopAt, legCount}
 use Rattle.orthogonal.specs.Orthogonal.{pathLeg}
 use Rattle.orthogonal.specs.Walk.{pointsLeft, stopFrom, nextStop, beginWalk, isEnd, stepOf, cursorPast, cursorAt}
 use Rattle.orthogonal.specs.Walk.{stopsAhead, legsLeft}

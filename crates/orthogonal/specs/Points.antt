@@ -1,5 +1,5 @@
 -- The points of a path: the source, the points between (two words each), the target. "skip repeated points": its stops.
-use Prim.Native.Nat.{ℕ, _+_, _-_, _*_, _/_}
+use Prim.Native.Nat.{ℕ, _+_, _-_}
 use mathlib.Core.Bool.{Bool, cond, _&&_}
 use mathlib.Core.List.{List, [], _∷_, map}
 use lib.ListN.{length, getD}
@@ -7,20 +7,13 @@ use lib.Dec.{leb, eqb}
 use Rattle.ground.specs.Each.{numbers}
 use Rattle.image.specs.declared.Edge.{Edge}
 use Rattle.image.specs.declared.Point.{Point}
-
--- how many points lie between
-abbrev pub pointCount : List ℕ → ℕ
-pointCount points = length points / 2
+use Rattle.image.specs.Spans.{pointCount, pointAt}
 
 abbrev pub source : Edge → Point
 source e = record { x = e .«from_x»; y = e .«from_y» }
 
 abbrev pub target : Edge → Point
 target e = record { x = e .«to_x»; y = e .«to_y» }
-
--- point k of those between
-abbrev pub pointAt : List ℕ → ℕ → Point
-pointAt points k = record { x = getD points (2 * k) 0; y = getD points (2 * k + 1) 0 }
 
 -- point k of the path
 unfoldable pub pathPoint : Edge → List ℕ → ℕ → Point

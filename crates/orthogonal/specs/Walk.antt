@@ -14,7 +14,8 @@ use Rattle.orthogonal.specs.declared.Cursor.{Cursor}
 use Rattle.orthogonal.specs.declared.Step.{Step}
 use Rattle.orthogonal.specs.declared.Step.the-variants as step
 use Rattle.orthogonal.specs.declared.EndMark.{EndMark}
-use Rattle.orthogonal.specs.Points.{pointCount, source, pathPoint, pathPoints, samePoint, stopsAfter}
+use Rattle.image.specs.Spans.{pointCount}
+use Rattle.orthogonal.specs.Points.{source, pathPoint, pathPoints, samePoint, stopsAfter}
 use Rattle.orthogonal.specs.Orthogonal.{endMark}
 
 -- how many points of the path are left from point k on

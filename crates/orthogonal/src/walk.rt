@@ -13,7 +13,7 @@ use image::Point;
 fn next_stop(e: Edge, points: &[u32], a: Point, k: usize) -> Stop
     ensures { λ r. ⌜ r ≡ nextStop e (now (points .entry)) a k ⌝ }
 {
-    let end = points::point_count(points) + 2;
+    let end = image::point_count(points) + 2;
     let mut i = k;
     while i < end {
         let p = points::path_point(e, points, i);

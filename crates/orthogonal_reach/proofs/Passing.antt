@@ -29,7 +29,8 @@ use Rattle.orthogonal.specs.declared.PathLeg.{PathLeg}
 use Rattle.orthogonal.specs.declared.EndMark.{EndMark}
 use Rattle.orthogonal.specs.declared.EndMark.the-variants as end
 use Rattle.orthogonal_reach.specs.declared.Passed.{Passed}
-use Rattle.orthogonal.specs.Points.{pointCount, source, target, pointAt, pathPoint, pathPoints, samePoint, stopsAfter, stops, stopAt, legCount}
+use Rattle.image.specs.Spans.{pointCount, pointAt}
+use Rattle.orthogonal.specs.Points.{source, target, pathPoint, pathPoints, samePoint, stopsAfter, stops, stopAt, legCount}
 use Rattle.orthogonal.specs.Orthogonal.{columnLine, rowLine, legLine, bendArms, markOr, bendPiece, legBendPiece, legPieces, pathLeg, sourceMark, targetMark, piecesAlong, orthogonalPieces}
 use Rattle.orthogonal.specs.Walk.{pointsLeft}
 use Rattle.orthogonal_reach.specs.Passing.{bendRows, lineRows, passStop, passPoint, passPoints, passNone}

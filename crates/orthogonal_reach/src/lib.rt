@@ -62,7 +62,7 @@ fn pass_point(window: Window, passed: Passed, point: Point) -> Passed
 pub fn orthogonal_reach(window: Window, e: Edge, points: &[u32]) -> Reach
     ensures { λ r. ⌜ r ≡ reachOf window (orthogonalPieces e (now (points .entry))) ⌝ }
 {
-    let count = points::point_count(points);
+    let count = image::point_count(points);
     let mut passed = Passed {
         stop: points::source_point(e),
         first: true,
@@ -70,7 +70,7 @@ pub fn orthogonal_reach(window: Window, e: Edge, points: &[u32]) -> Reach
     };
     let mut k: usize = 0;
     while k < count {
-        passed = pass_point(window, passed, points::point_at(points, k));
+        passed = pass_point(window, passed, image::point_at(points, k));
         k += 1;
     }
     let all = pass_point(window, passed, points::target_point(e));

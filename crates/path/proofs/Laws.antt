@@ -5,6 +5,7 @@ use mathlib.Core.Bool.{Bool, true, false}
 use mathlib.Core.List.{List, [], _∷_}
 use borrow.Author.Tests.{eq-eqb, ne-eqb}
 use Rattle.image.specs.declared.Edge.{Edge}
+use Rattle.image.specs.declared.Point.{Point}
 use types.Run.{OneOf, miss}
 use denote.Enum.Declared.{tagOf}
 use Rattle.image.specs.declared.Span.{Span}
@@ -22,8 +23,16 @@ use Rattle.flow.specs.Reach.{noReach, pieceReach, joinReach, reachOf}
 use Rattle.flow.proofs.Reached.{no-reach-join, reach-one}
 use Rattle.y_flow.specs.YFlow.{directY, cornerY, sideY, legY, cornerRow}
 use Rattle.x_flow.specs.XFlow.{directX, cornerX, sideX, legX, cornerColumn}
-use Rattle.path.specs.Pieces.{directOn, cornerOn, sideOn, legOn}
+use Rattle.path.specs.Pieces.{directOn, cornerOn, sideOn, legOn, legBetween}
 use Rattle.path.specs.Corners.{isBelow, legBelow, multiBelow, belowOf}
+
+-- the leg of these numbers
+pub leg-of :
+    (a b : Point) (first last : Bool) (x1 y1 x2 y2 : ℕ) →
+    x1 ≡ a .x → y1 ≡ a .y → x2 ≡ b .x → y2 ≡ b .y →
+    _≡_ {A = Leg} (record { x1 = x1; y1 = y1; x2 = x2; y2 = y2; first = first; last = last }) (legBetween a b first last)
+unfolding legBetween
+leg-of a b first last x1 y1 x2 y2 p q r s = rw (p, q, r, s)
 
 -- what is reached with some pieces, when nothing was before
 from-none :
@@ -109,14 +118,14 @@ module _ (axis : FlowAxis) (e : Edge) (offset : ℕ) (leg : Leg) where
   unfolding legBelow
   straight-x h a = rw (a, eq-eqb _ _ h)
 
-  module _ (r : Bool) where
-    pub bent-y : r ≡ isBelow (cornerRow e offset leg) → (leg .x1 ≡ leg .x2 → ⊥) → axis ≡ Y → r ≡ legBelow axis e offset leg
+  module _ (corner : Coordinate) (r : Bool) where
+    pub bent-y : corner ≡ cornerRow e offset leg → r ≡ isBelow corner → (leg .x1 ≡ leg .x2 → ⊥) → axis ≡ Y → r ≡ legBelow axis e offset leg
     unfolding legBelow
-    bent-y h n a = rw (a, ne-eqb _ _ n) h
+    bent-y c h n a = rw (a, ne-eqb _ _ n, ← c) h
 
-    pub bent-x : r ≡ isBelow (cornerColumn e offset leg) → (leg .y1 ≡ leg .y2 → ⊥) → axis ≡ X → r ≡ legBelow axis e offset leg
+    pub bent-x : corner ≡ cornerColumn e offset leg → r ≡ isBelow corner → (leg .y1 ≡ leg .y2 → ⊥) → axis ≡ X → r ≡ legBelow axis e offset leg
     unfolding legBelow
-    bent-x h n a = rw (a, ne-eqb _ _ n) h
+    bent-x c h n a = rw (a, ne-eqb _ _ n, ← c) h
 
 -- Only a MultiSegment has corners that can lie below 0.
 

@@ -16,7 +16,8 @@ use Rattle.flow.specs.declared.Piece.{Piece}
 use Rattle.flow.specs.declared.Reach.{Reach}
 use Rattle.flow.specs.Reach.{noReach, joinReach, reachOf}
 use Rattle.flow.proofs.Reached.{join-reach-assoc, join-no-reach, no-reach-join, reach-append}
-use Rattle.orthogonal.specs.Points.{pointCount, source, target, pointAt, pathPoint}
+use Rattle.image.specs.Spans.{pointCount, pointAt}
+use Rattle.orthogonal.specs.Points.{source, target, pathPoint}
 use Rattle.orthogonal.proofs.Laws.{path-source, between-point, last-point}
 use Rattle.path.specs.Pieces.{legOn, legBetween, legAt, multiPieces}
 use Rattle.path.specs.Corners.{legBelow, multiBelow}

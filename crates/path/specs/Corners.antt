@@ -14,7 +14,7 @@ use Rattle.flow.specs.declared.Coordinate.the-variants as coordinate
 use Rattle.flow.specs.declared.Leg.{Leg}
 use Rattle.y_flow.specs.YFlow.{cornerRow}
 use Rattle.x_flow.specs.XFlow.{cornerColumn}
-use Rattle.orthogonal.specs.Points.{pointCount}
+use Rattle.image.specs.Spans.{pointCount}
 use Rattle.path.specs.Pieces.{legAt}
 
 unfoldable pub isBelow : Coordinate → Bool

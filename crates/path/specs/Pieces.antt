@@ -16,7 +16,8 @@ use Rattle.flow.specs.declared.Piece.{Piece}
 use Rattle.flow.specs.Pieces.{pieceSpots}
 use Rattle.y_flow.specs.YFlow.{directY, cornerY, sideY, legY}
 use Rattle.x_flow.specs.XFlow.{directX, cornerX, sideX, legX}
-use Rattle.orthogonal.specs.Points.{pointCount, pathPoint}
+use Rattle.image.specs.Spans.{pointCount}
+use Rattle.orthogonal.specs.Points.{pathPoint}
 use Rattle.orthogonal.specs.Orthogonal.{orthogonalPieces}
 
 -- the pieces of each kind of path, along the flow's axis: "X flow exchanges the axes, but .."

@@ -45,11 +45,11 @@ fn leg_below(e: Edge, offset: u32, leg: Leg) -> bool
 fn multi_below(e: Edge, offset: u32, points: &[u32]) -> bool
     ensures { λ r. ⌜ r ≡ multiBelow e offset (now (points .entry)) ⌝ }
 {
-    let count = points::point_count(points);
+    let count = image::point_count(points);
     let mut a = points::source_point(e);
     let mut k: usize = 0;
     while k < count {
-        let b = points::point_at(points, k);
+        let b = image::point_at(points, k);
         if leg_below(e, offset, legs::leg_between(a, b, k == 0, false)) {
             return true;
         }

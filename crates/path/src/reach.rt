@@ -61,12 +61,12 @@ fn leg_reach(reach: Reach, window: Window, e: Edge, offset: u32, leg: Leg) -> Re
 fn multi_reach(window: Window, e: Edge, offset: u32, points: &[u32]) -> Reach
     ensures { λ r. ⌜ r ≡ reachOf window (multiPieces e offset (now (points .entry))) ⌝ }
 {
-    let count = points::point_count(points);
+    let count = image::point_count(points);
     let mut reach = touch::no_reach();
     let mut a = points::source_point(e);
     let mut k: usize = 0;
     while k < count {
-        let b = points::point_at(points, k);
+        let b = image::point_at(points, k);
         let leg = legs::leg_between(a, b, k == 0, false);
         reach = leg_reach(reach, window, e, offset, leg);
         a = b;

@@ -33,7 +33,7 @@ use Rattle.flow.specs.declared.Coordinate.the-variants.{At, Below}
 use Rattle.flow.specs.declared.Leg.{Leg}
 use Rattle.y_flow.specs.YFlow.{cornerRow}
 use Rattle.x_flow.specs.XFlow.{cornerColumn}
-use Rattle.orthogonal.specs.Points.{pointCount}
+use Rattle.image.specs.Spans.{pointCount}
 use Rattle.path.specs.Pieces.{legAt}
 use Rattle.path.specs.Corners.{isBelow, legBelow, multiBelow, belowOf, cornerBelow}
 use Rattle.elements.proofs.Records.{records-good-iff}

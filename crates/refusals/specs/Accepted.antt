@@ -18,7 +18,7 @@ use Rattle.flow.specs.declared.Coordinate.the-variants.{Below}
 use Rattle.flow.specs.declared.Leg.{Leg}
 use Rattle.y_flow.specs.YFlow.{cornerRow}
 use Rattle.x_flow.specs.XFlow.{cornerColumn}
-use Rattle.orthogonal.specs.Points.{pointCount}
+use Rattle.image.specs.Spans.{pointCount}
 use Rattle.path.specs.Pieces.{legAt}
 use Rattle.elements.specs.Elements.{Once, Ordered}
 use Rattle.listing.specs.Listing.{rangesOf, edgePoints, AllListed, runCount}

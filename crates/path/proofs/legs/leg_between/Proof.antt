@@ -1,12 +1,8 @@
 -- `leg_between` is the leg from a point to another.
 use borrow.Author.Needs.{needs}
-use Rattle.path.specs.Pieces.{legBetween}
+use Rattle.path.proofs.Laws.{leg-of}
 use Rattle.path.proofs.legs.leg_between.Statement.{statement}
 use Rattle.path.proofs.legs.leg_between.Tie as tie
-
-returns : tie.Need-returns
-unfolding legBetween
-returns c = (cc, search needs)
 
 pub leg-between-spec : {M : Type 1} → statement M
 leg-between-spec =
@@ -16,4 +12,4 @@ leg-between-spec =
     (λ c κs. search needs)
     (λ c κs. search needs)
     (λ c κs. search needs)
-    returns)
+    (λ c. (search (leg-of, needs), search needs)))
