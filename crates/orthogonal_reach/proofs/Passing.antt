@@ -86,22 +86,21 @@ module _ (window : Window) where
 
   -- the rows of a leg's interior, along a column, along a row, and slanted
 
-  module _ (from to : Point) (r : Rows) where
-    pub rows-on-column : from .x ≡ to .x → r ≡ verticalRows window (from .y) (to .y) → r ≡ lineRows window from to
-    unfolding lineRows
-    rows-on-column h e = rw (eq-eqb _ _ h) e
+  module _ (from to : Point) where
+    module _ (a : ℕ) (r : Rows) where
+      pub rows-on-column : (to-y : ℕ) → a ≡ from .y → to-y ≡ to .y → from .x ≡ to .x → r ≡ verticalRows window a to-y → r ≡ lineRows window from to
+      unfolding lineRows
+      rows-on-column to-y p q h e = rw (eq-eqb _ _ h, ← p, ← q) e
 
-    pub rows-on-row :
-        (from .x ≡ to .x → ⊥) →
-        from .y ≡ to .y →
-        r ≡ horizontalRows window (from .y) (from .x) (to .x) →
-        r ≡ lineRows window from to
-    unfolding lineRows
-    rows-on-row n h e = rw (ne-eqb _ _ n, eq-eqb _ _ h) e
+      pub rows-on-row :
+          (from-x to-x : ℕ) → a ≡ from .y → from-x ≡ from .x → to-x ≡ to .x → (from .x ≡ to .x → ⊥) → from .y ≡ to .y →
+          r ≡ horizontalRows window a from-x to-x → r ≡ lineRows window from to
+      unfolding lineRows
+      rows-on-row from-x to-x p q s n h e = rw (ne-eqb _ _ n, eq-eqb _ _ h, ← p, ← q, ← s) e
 
-    pub rows-slanted : (from .x ≡ to .x → ⊥) → (from .y ≡ to .y → ⊥) → r ≡ rows.None → r ≡ lineRows window from to
+    pub rows-slanted : (from .x ≡ to .x → ⊥) → (from .y ≡ to .y → ⊥) → rows.None ≡ lineRows window from to
     unfolding lineRows
-    rows-slanted n m e = rw (ne-eqb _ _ n, ne-eqb _ _ m) e
+    rows-slanted n m = rw (ne-eqb _ _ n, ne-eqb _ _ m)
 
   -- the rows of the legs from a stop on, through the stops after it
   unfoldable rowsAlong : Bool → Point → List Point → Rows
@@ -136,6 +135,20 @@ module _ (window : Window) where
   pub pass-other : (passed : Passed) (p : Point) → samePoint (passed .stop) p ≡ false → passPoint window passed p ≡ passStop window passed p
   unfolding passPoint
   pass-other passed p t = rw t
+
+  -- the same of a test and of rows by name
+
+  module _ (passed : Passed) (p stop : Point) (same : Bool) (at : stop ≡ passed .stop) (t : same ≡ samePoint stop p) where
+    pub pass-repeated : same ≡ true → passed ≡ passPoint window passed p
+    pass-repeated h = sym (pass-same passed p (rw (← at, ← t) h))
+
+    pub pass-leg :
+        (y : ℕ) (bend bent line all : Rows) → same ≡ false → y ≡ stop .y →
+        bend ≡ bendRows window (passed .first) y → bent ≡ joinRows (passed .rows) bend →
+        line ≡ lineRows window stop p → all ≡ joinRows bent line →
+        _≡_ {A = Passed} (record { stop = p; first = false; rows = all }) (passPoint window passed p)
+    pass-leg y bend bent line all h q b j l e =
+        rw (e, j, b, l, q, at) (sym (pass-other passed p (rw (← at, ← t) h)))
 
   -- they are those of the points, once the repeated are skipped
   passed-stops :
@@ -198,26 +211,27 @@ module _ (window : Window) where
           (numbers-step (k + 1) (pointCount points + 2) (omega arith))
 
       pub pass-turns :
-          (next : Passed) →
+          (point : Point) (next : Passed) →
           k < pointCount points →
-          next ≡ passPoint window passed (pointAt points k) →
+          point ≡ pointAt points k →
+          next ≡ passPoint window passed point →
           PassedTo e points next (k + 1)
-      pass-turns next h q =
+      pass-turns point next h p q =
           record {
             within = omega arith;
-            all = rw (q, ← between-point e points k h) (sym (next-point (omega arith)) ∙ m .all);
+            all = rw (q, p, ← between-point e points k h) (sym (next-point (omega arith)) ∙ m .all);
           }
 
       pub pass-ends :
-          (last : Passed) (r : Rows) →
+          (end : Point) (last : Passed) →
           pointCount points ≤ k →
-          last ≡ passPoint window passed (target e) →
-          r ≡ last .rows →
-          onlyRows r ≡ reachOf window (orthogonalPieces e points)
+          end ≡ target e →
+          last ≡ passPoint window passed end →
+          onlyRows (last .rows) ≡ reachOf window (orthogonalPieces e points)
       unfolding passPoints numbers
-      pass-ends last r h q p =
+      pass-ends end last h t q =
           let w = m .within in
           let z : k ≡ pointCount points = omega arith in
           let n : pointsLeft points (pointCount points + 1 + 1) ≡ 0 = omega arith in
           let all = rw (z, last-point e points, n) at (sym (next-point w) ∙ m .all) in
-          passed-reach e points r (p ∙ ap (λ (x : Passed). x .rows) (q ∙ all))
+          passed-reach e points (last .rows) (ap (λ (x : Passed). x .rows) (q ∙ ap (passPoint window passed) t ∙ all))

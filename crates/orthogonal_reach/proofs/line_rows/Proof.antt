@@ -1,6 +1,5 @@
 -- `line_rows` gives the rows of a leg's interior.
 use borrow.Author.Needs.{needs}
-use mathlib.Core.Path.{refl}
 use Rattle.orthogonal_reach.proofs.Passing.{rows-on-column, rows-on-row, rows-slanted}
 use Rattle.orthogonal_reach.proofs.line_rows.Statement.{statement}
 use Rattle.orthogonal_reach.proofs.line_rows.Tie as tie
@@ -12,9 +11,9 @@ line-rows-spec =
     (λ c κs. search needs)
     (λ c κs. search needs)
     (λ c κs. search needs)
-    (λ c. rows-on-column _ _ _ _ (search needs) (cc))
+    (λ c. search (rows-on-column, needs))
     (λ c κs. search needs)
     (λ c κs. search needs)
     (λ c κs. search needs)
-    (λ c. rows-on-row _ _ _ _ (search needs) (search needs) (cc))
-    (λ c. rows-slanted _ _ _ _ (search needs) (search needs) refl))
+    (λ c. search (rows-on-row, needs))
+    (λ c. search (rows-slanted, needs)))

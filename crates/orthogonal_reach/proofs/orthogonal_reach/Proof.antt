@@ -2,7 +2,6 @@
 -- points are left.
 use borrow.Author.Needs.{needs}
 use Prim.Native.Nat.{_-_}
-use mathlib.Core.Path.{refl}
 use Rattle.orthogonal_reach.proofs.Passing.{PassedTo, pass-begins, pass-turns, pass-ends}
 use Rattle.orthogonal_reach.proofs.orthogonal_reach.Statement.{statement}
 use Rattle.orthogonal_reach.proofs.orthogonal_reach.Tie as tie
@@ -17,10 +16,10 @@ loop-holds : tie.Need-loop-holds Inv-loop μ-loop
 loop-holds c = rw (c .source-point .ensures) (pass-begins _ _ _)
 
 loop-again : tie.Need-loop-again Inv-loop μ-loop
-loop-again c = pass-turns _ _ _ _ _ (c .before .before .before .loop .inv) _ (search needs) (cc)
+loop-again c = pass-turns _ _ _ _ _ (c .before .before .before .loop .inv) _ _ (search needs) (search needs) (c .pass-point .ensures)
 
 returns : tie.Need-returns Inv-loop μ-loop
-returns c = pass-ends _ _ _ _ _ (c .before .before .before .loop .inv) (c .pass-point2 .result) _ (search needs) (cc) refl
+returns c = pass-ends _ _ _ _ _ (c .before .before .before .loop .inv) _ _ (search needs) (search needs) (c .pass-point2 .ensures)
 
 pub orthogonal-reach-spec : {M : Type 1} → statement M
 orthogonal-reach-spec =
