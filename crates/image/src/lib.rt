@@ -6,10 +6,10 @@ ghost use lib.ListN.{length};
 ghost use Rattle.layout.specs.Layout.{pointSize};
 ghost use Rattle.layout.specs.Tables.{field};
 ghost use Rattle.layout.specs.Small.{Small, AllSmall};
-ghost use Rattle.image.specs.Records.{policyOf, headerOf, spanAt, nodeKindOf, selfLoopOf, nodeAt, pathOf, axisOf, edgeLabelOf, edgeAt};
-ghost use Rattle.image.specs.Records.{positionOf, subgraphAt, placedLabelAt, elementKindOf, elementKindNumber, thingTable, elementAt};
+ghost use Rattle.image.specs.Records.{policyOf, headerOf, spanAt, nodeKindAt, selfLoopAt, nodeAt, pathOf, pathAt, flowAxisOf, edgeLabelAt, edgeAt};
+ghost use Rattle.image.specs.Records.{borderAt, positionAt, subgraphAt, placedLabelAt, elementKindOf, elementKindNumber, thingTable, elementAt};
 ghost use Rattle.image.specs.Spans.{spanWords, pathSpan, pointsOf, tableWords, pointCount, pointAt};
-ghost use Rattle.image.specs.Parts.{nodeKindAt, selfLoopAt, endsAt, styleAt, pathAt, edgeLabelAt, borderAt, positionAt};
+ghost use Rattle.image.specs.Parts.{endsAt, styleOf};
 use cell::Weight;
 use layout::Table;
 use layout::Tables;
@@ -39,27 +39,28 @@ pub struct Header {
     pub show_dummies: bool,
 }
 
-impl LabelPolicy {
-    pub fn of(avoid: bool) -> LabelPolicy
-        ensures { λ r. ⌜ r ≡ policyOf avoid ⌝ }
-    {
-        if avoid {
-            LabelPolicy::AvoidNodeRows
-        } else {
-            LabelPolicy::Geometric
-        }
+fn policy_of(flags: u32) -> LabelPolicy
+    ensures { λ r. ⌜ r ≡ policyOf flags ⌝ }
+{
+    if flag(flags, layout::AVOID_NODE_ROWS) {
+        LabelPolicy::AvoidNodeRows
+    } else {
+        LabelPolicy::Geometric
     }
 }
 
 pub fn header_of(image: &[u32]) -> Header
     ensures { λ r. ⌜ r ≡ headerOf (now (image .entry)) ⌝ }
 {
+    let width = word(image, layout::HEADER_WIDTH);
+    let height = word(image, layout::HEADER_HEIGHT);
+    let run_capacity = word(image, layout::HEADER_RUNS);
     let flags = word(image, layout::HEADER_FLAGS);
     Header {
-        width: word(image, layout::HEADER_WIDTH),
-        height: word(image, layout::HEADER_HEIGHT),
-        run_capacity: word(image, layout::HEADER_RUNS),
-        policy: LabelPolicy::of(flag(flags, layout::AVOID_NODE_ROWS)),
+        width: width,
+        height: height,
+        run_capacity: run_capacity,
+        policy: policy_of(flags),
         show_dummies: flag(flags, layout::SHOW_DUMMIES),
     }
 }
@@ -135,51 +136,31 @@ pub struct Node {
     pub self_loop: SelfLoop,
 }
 
-impl NodeKind {
-    pub fn of(number: u32) -> NodeKind
-        ensures { λ r. ⌜ r ≡ nodeKindOf number ⌝ }
-    {
-        match number {
-            0 => NodeKind::Simple,
-            1 => NodeKind::Boxed,
-            2 => NodeKind::Blank,
-            _ => NodeKind::Dummy,
-        }
-    }
-}
-
-impl SelfLoop {
-    pub fn of(present: bool, x: u32, y: u32) -> SelfLoop
-        ensures { λ r. ⌜ r ≡ selfLoopOf present x y ⌝ }
-    {
-        if present {
-            SelfLoop::At { x: x, y: y }
-        } else {
-            SelfLoop::None
-        }
-    }
-}
-
 fn node_kind_at(image: &[u32], nodes: Table, k: usize) -> NodeKind
     requires { ⌜ Small nodes × (k < 4294967296) ⌝ }
     ensures { λ r. ⌜ r ≡ nodeKindAt (now (image .entry)) nodes k ⌝ }
 {
     let flags = field(image, nodes, k, layout::NODE_FLAGS);
-    NodeKind::of(bits(flags, layout::NODE_KIND_STEP, layout::NODE_KINDS))
+    match bits(flags, layout::NODE_KIND_STEP, layout::NODE_KINDS) {
+        0 => NodeKind::Simple,
+        1 => NodeKind::Boxed,
+        2 => NodeKind::Blank,
+        _ => NodeKind::Dummy,
+    }
 }
 
 fn self_loop_at(image: &[u32], nodes: Table, k: usize) -> SelfLoop
     requires { ⌜ Small nodes × (k < 4294967296) ⌝ }
     ensures { λ r. ⌜ r ≡ selfLoopAt (now (image .entry)) nodes k ⌝ }
 {
-    SelfLoop::of(
-        flag(
-            field(image, nodes, k, layout::NODE_FLAGS),
-            layout::SELF_LOOP,
-        ),
-        field(image, nodes, k, layout::NODE_LOOP_X),
-        field(image, nodes, k, layout::NODE_LOOP_Y),
-    )
+    let x = field(image, nodes, k, layout::NODE_LOOP_X);
+    let y = field(image, nodes, k, layout::NODE_LOOP_Y);
+    let flags = field(image, nodes, k, layout::NODE_FLAGS);
+    if flag(flags, layout::SELF_LOOP) {
+        SelfLoop::At { x: x, y: y }
+    } else {
+        SelfLoop::None
+    }
 }
 
 pub fn node_at(image: &[u32], nodes: Table, k: usize) -> Node
@@ -271,48 +252,6 @@ pub struct Edge {
     pub label_colour: u32,
 }
 
-impl Path {
-    pub fn of(number: u32, a: u32, b: u32, c: u32) -> Path
-        ensures { λ r. ⌜ r ≡ pathOf number a b c ⌝ }
-    {
-        match number {
-            layout::PATH_CORNER => Path::Corner(a),
-            layout::PATH_SIDE_CHANNEL => Path::SideChannel {
-                channel: a,
-                span_start: b,
-                span_end: c,
-            },
-            layout::PATH_MULTI_SEGMENT => Path::MultiSegment {
-                points: Span { start: a, count: b },
-                start_offset: c,
-            },
-            layout::PATH_ORTHOGONAL => Path::Orthogonal(Span { start: a, count: b }),
-            layout::PATH_SPLINE => Path::Spline,
-            _ => Path::Direct,
-        }
-    }
-}
-
-impl FlowAxis {
-    pub fn of(across: bool) -> FlowAxis
-        ensures { λ r. ⌜ r ≡ axisOf across ⌝ }
-    {
-        if across { FlowAxis::X } else { FlowAxis::Y }
-    }
-}
-
-impl EdgeLabel {
-    pub fn of(present: bool, span: Span) -> EdgeLabel
-        ensures { λ r. ⌜ r ≡ edgeLabelOf present span ⌝ }
-    {
-        if present {
-            EdgeLabel::Present(span)
-        } else {
-            EdgeLabel::None
-        }
-    }
-}
-
 // Where an edge begins and ends.
 struct Ends {
     from_x: u32,
@@ -342,13 +281,21 @@ struct Style {
     weight: Weight,
 }
 
-fn style_at(image: &[u32], edges: Table, k: usize) -> Style
-    requires { ⌜ Small edges × (k < 4294967296) ⌝ }
-    ensures { λ r. ⌜ r ≡ styleAt (now (image .entry)) edges k ⌝ }
+fn flow_axis_of(flags: u32) -> FlowAxis
+    ensures { λ r. ⌜ r ≡ flowAxisOf flags ⌝ }
 {
-    let flags = field(image, edges, k, layout::EDGE_FLAGS);
+    if flag(flags, layout::FLOW_X) {
+        FlowAxis::X
+    } else {
+        FlowAxis::Y
+    }
+}
+
+fn style_of(flags: u32) -> Style
+    ensures { λ r. ⌜ r ≡ styleOf flags ⌝ }
+{
     Style {
-        flow_axis: FlowAxis::of(flag(flags, layout::FLOW_X)),
+        flow_axis: flow_axis_of(flags),
         reversed: flag(flags, layout::REVERSED),
         start_marker: flag(flags, layout::START_MARKER),
         end_marker: flag(flags, layout::END_MARKER),
@@ -356,36 +303,54 @@ fn style_at(image: &[u32], edges: Table, k: usize) -> Style
     }
 }
 
+// The path of a number and its three words.
+fn path_of(number: u32, a: u32, b: u32, c: u32) -> Path
+    ensures { λ r. ⌜ r ≡ pathOf number a b c ⌝ }
+{
+    match number {
+        layout::PATH_CORNER => Path::Corner(a),
+        layout::PATH_SIDE_CHANNEL => Path::SideChannel {
+            channel: a,
+            span_start: b,
+            span_end: c,
+        },
+        layout::PATH_MULTI_SEGMENT => Path::MultiSegment {
+            points: Span { start: a, count: b },
+            start_offset: c,
+        },
+        layout::PATH_ORTHOGONAL => Path::Orthogonal(Span { start: a, count: b }),
+        layout::PATH_SPLINE => Path::Spline,
+        _ => Path::Direct,
+    }
+}
+
 fn path_at(image: &[u32], edges: Table, k: usize) -> Path
     requires { ⌜ Small edges × (k < 4294967296) ⌝ }
     ensures { λ r. ⌜ r ≡ pathAt (now (image .entry)) edges k ⌝ }
 {
+    let a = field(image, edges, k, layout::EDGE_A);
+    let b = field(image, edges, k, layout::EDGE_B);
+    let c = field(image, edges, k, layout::EDGE_C);
     let flags = field(image, edges, k, layout::EDGE_FLAGS);
-    Path::of(
-        bits(flags, layout::PATH_STEP, layout::PATHS),
-        field(image, edges, k, layout::EDGE_A),
-        field(image, edges, k, layout::EDGE_B),
-        field(image, edges, k, layout::EDGE_C),
-    )
+    path_of(bits(flags, layout::PATH_STEP, layout::PATHS), a, b, c)
 }
 
 fn edge_label_at(image: &[u32], edges: Table, k: usize) -> EdgeLabel
     requires { ⌜ Small edges × (k < 4294967296) ⌝ }
     ensures { λ r. ⌜ r ≡ edgeLabelAt (now (image .entry)) edges k ⌝ }
 {
-    EdgeLabel::of(
-        flag(
-            field(image, edges, k, layout::EDGE_FLAGS),
-            layout::LABEL_PRESENT,
-        ),
-        span_at(
+    let flags = field(image, edges, k, layout::EDGE_FLAGS);
+    if flag(flags, layout::LABEL_PRESENT) {
+        EdgeLabel::Present(span_at(
             image,
             edges,
             k,
             layout::EDGE_LABEL_START,
             layout::EDGE_LABEL_COUNT,
-        ),
-    )
+        ))
+    } else {
+        EdgeLabel::None
+    }
 }
 
 pub fn edge_at(image: &[u32], edges: Table, k: usize) -> Edge
@@ -393,7 +358,11 @@ pub fn edge_at(image: &[u32], edges: Table, k: usize) -> Edge
     ensures { λ r. ⌜ r ≡ edgeAt (now (image .entry)) edges k ⌝ }
 {
     let ends = ends_at(image, edges, k);
-    let style = style_at(image, edges, k);
+    let path = path_at(image, edges, k);
+    let label = edge_label_at(image, edges, k);
+    let colour = field(image, edges, k, layout::EDGE_COLOUR);
+    let label_colour = field(image, edges, k, layout::EDGE_LABEL_COLOUR);
+    let style = style_of(field(image, edges, k, layout::EDGE_FLAGS));
     let flow_axis = style.flow_axis;
     let weight = style.weight;
     Edge {
@@ -401,15 +370,15 @@ pub fn edge_at(image: &[u32], edges: Table, k: usize) -> Edge
         from_y: ends.from_y,
         to_x: ends.to_x,
         to_y: ends.to_y,
-        path: path_at(image, edges, k),
+        path: path,
         flow_axis: flow_axis,
         reversed: style.reversed,
         start_marker: style.start_marker,
         end_marker: style.end_marker,
         weight: weight,
-        label: edge_label_at(image, edges, k),
-        colour: field(image, edges, k, layout::EDGE_COLOUR),
-        label_colour: field(image, edges, k, layout::EDGE_LABEL_COLOUR),
+        label: label,
+        colour: colour,
+        label_colour: label_colour,
     }
 }
 
@@ -439,18 +408,6 @@ pub struct Subgraph {
     pub colour: u32,
 }
 
-impl LabelPosition {
-    pub fn of(bottom: bool) -> LabelPosition
-        ensures { λ r. ⌜ r ≡ positionOf bottom ⌝ }
-    {
-        if bottom {
-            LabelPosition::InsideBottom
-        } else {
-            LabelPosition::InsideTop
-        }
-    }
-}
-
 fn border_at(image: &[u32], subgraphs: Table, k: usize) -> Weight
     requires { ⌜ Small subgraphs × (k < 4294967296) ⌝ }
     ensures { λ r. ⌜ r ≡ borderAt (now (image .entry)) subgraphs k ⌝ }
@@ -464,7 +421,11 @@ fn position_at(image: &[u32], subgraphs: Table, k: usize) -> LabelPosition
     ensures { λ r. ⌜ r ≡ positionAt (now (image .entry)) subgraphs k ⌝ }
 {
     let flags = field(image, subgraphs, k, layout::SUBGRAPH_FLAGS);
-    LabelPosition::of(flag(flags, layout::INSIDE_BOTTOM))
+    if flag(flags, layout::INSIDE_BOTTOM) {
+        LabelPosition::InsideBottom
+    } else {
+        LabelPosition::InsideTop
+    }
 }
 
 pub fn subgraph_at(image: &[u32], subgraphs: Table, k: usize) -> Subgraph
@@ -507,11 +468,14 @@ pub fn placed_label_at(image: &[u32], labels: Table, k: usize) -> PlacedLabel
     requires { ⌜ Small labels × (k < 4294967296) ⌝ }
     ensures { λ r. ⌜ r ≡ placedLabelAt (now (image .entry)) labels k ⌝ }
 {
+    let edge = field(image, labels, k, layout::LABEL_EDGE);
+    let x = field(image, labels, k, layout::LABEL_X);
+    let y = field(image, labels, k, layout::LABEL_Y);
     let flags = field(image, labels, k, layout::LABEL_FLAGS);
     PlacedLabel {
-        edge: field(image, labels, k, layout::LABEL_EDGE),
-        x: field(image, labels, k, layout::LABEL_X),
-        y: field(image, labels, k, layout::LABEL_Y),
+        edge: edge,
+        x: x,
+        y: y,
         placeable: flag(flags, layout::PLACEABLE),
         row_has_node: flag(flags, layout::ROW_HAS_NODE),
     }
@@ -573,11 +537,14 @@ pub fn element_at(image: &[u32], elements: Table, k: usize) -> Element
     requires { ⌜ Small elements × (k < 4294967296) ⌝ }
     ensures { λ r. ⌜ r ≡ elementAt (now (image .entry)) elements k ⌝ }
 {
+    let index = field(image, elements, k, layout::ELEMENT_INDEX);
+    let first_row = field(image, elements, k, layout::ELEMENT_FIRST_ROW);
+    let last_row = field(image, elements, k, layout::ELEMENT_LAST_ROW);
     Element {
         kind: ElementKind::of(field(image, elements, k, layout::ELEMENT_KIND)),
-        index: field(image, elements, k, layout::ELEMENT_INDEX),
-        first_row: field(image, elements, k, layout::ELEMENT_FIRST_ROW),
-        last_row: field(image, elements, k, layout::ELEMENT_LAST_ROW),
+        index: index,
+        first_row: first_row,
+        last_row: last_row,
     }
 }
 

@@ -4,7 +4,7 @@ use Rattle.image.proofs.border_at.Statement.{statement}
 use Rattle.image.proofs.border_at.Tie as tie
 
 returns : tie.Need-returns
-returns c = cc
+returns c = rw (c .from-bits .ensures, c .before .bits .ensures, c .before .before .field .ensures)
 
 pub border-at-spec : {M : Type 1} → statement M
 border-at-spec = tie.close (tie.spec (λ c κs. search needs) (λ c κs. search needs) (λ c κs. search needs) returns)

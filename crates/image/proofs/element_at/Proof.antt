@@ -1,20 +1,11 @@
 -- `element_at` reads an element by its fields.
 use borrow.Author.Needs.{needs}
-use Rattle.image.specs.Records.{elementAt}
+use Rattle.image.proofs.Laws.{element-of}
 use Rattle.image.proofs.element_at.Statement.{statement}
 use Rattle.image.proofs.element_at.Tie as tie
 
 returns : tie.Need-returns
-unfolding elementAt
-returns c = cc
+returns c = element-of _ _ _ _ _ _ _ _ (c .before .field4 .ensures) (search needs) (search needs) (search needs) (search needs)
 
 pub element-at-spec : {M : Type 1} → statement M
-element-at-spec =
-    tie.close
-    (tie.spec
-    (λ c κs. search needs)
-    (λ c κs. search needs)
-    (λ c κs. search needs)
-    (λ c κs. search needs)
-    (λ c κs. search needs)
-    returns)
+element-at-spec = tie.close (tie.spec (λ c κs. search needs) (λ c κs. search needs) (λ c κs. search needs) (λ c κs. search needs) (λ c κs. search needs) returns)

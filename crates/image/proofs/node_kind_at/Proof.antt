@@ -1,10 +1,26 @@
 -- `node_kind_at` reads the kind of a node.
 use borrow.Author.Needs.{needs}
+use borrow.Author.Tests.{ne-eqb}
+use Rattle.image.specs.Records.{nodeKindAt}
 use Rattle.image.proofs.node_kind_at.Statement.{statement}
 use Rattle.image.proofs.node_kind_at.Tie as tie
 
 returns : tie.Need-returns
-returns c = cc
+unfolding nodeKindAt
+returns c = rw (← c .before .before .field .ensures, ← c .before .bits .ensures, c .match .keys1)
+
+returns-2 : tie.Need-returns-2
+unfolding nodeKindAt
+returns-2 c = rw (← c .before .before .field .ensures, ← c .before .bits .ensures, c .match .keys2)
+
+returns-3 : tie.Need-returns-3
+unfolding nodeKindAt
+returns-3 c = rw (← c .before .before .field .ensures, ← c .before .bits .ensures, c .match .keys3)
+
+returns-4 : tie.Need-returns-4
+unfolding nodeKindAt
+returns-4 c =
+    rw (← c .before .before .field .ensures, ← c .before .bits .ensures) (simp (ne-eqb _ _ (c .match .rest .1), ne-eqb _ _ (c .match .rest .0 .1), ne-eqb _ _ (c .match .rest .0 .0 .1)))
 
 pub node-kind-at-spec : {M : Type 1} → statement M
-node-kind-at-spec = tie.close (tie.spec (λ c κs. search needs) (λ c κs. search needs) (λ c κs. search needs) returns)
+node-kind-at-spec = tie.close (tie.spec (λ c κs. search needs) (λ c κs. search needs) returns returns-2 returns-3 returns-4)

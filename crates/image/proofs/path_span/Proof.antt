@@ -8,4 +8,5 @@ returns-3 : tie.Need-returns-3
 returns-3 c = no-points (c .before .args .path) (c .match .keys3)
 
 pub path-span-spec : {M : Type 1} → statement M
-path-span-spec = tie.close (tie.spec (λ c. search needs) (λ c. search needs) (λ c. search needs) (λ c. search needs) returns-3)
+path-span-spec =
+    tie.close (tie.spec (λ c. search needs) (λ c. search needs) (λ c. search needs) (λ c. search needs) returns-3)

@@ -1,8 +1,8 @@
--- `Path::of` gives the path of a number and its three words.
+-- `path_of` gives the path of a number and its three words.
 use borrow.Author.Tests.{ne-eqb}
 use Rattle.image.specs.Records.{pathOf}
-use Rattle.image.proofs.Path.of.Statement.{statement}
-use Rattle.image.proofs.Path.of.Tie as tie
+use Rattle.image.proofs.path_of.Statement.{statement}
+use Rattle.image.proofs.path_of.Tie as tie
 
 returns : tie.Need-returns
 unfolding pathOf
@@ -26,7 +26,8 @@ returns-5 c = rw (c .match .keys5)
 
 returns-6 : tie.Need-returns-6
 unfolding pathOf
-returns-6 c = simp (ne-eqb _ _ (c .match .rest .1), ne-eqb _ _ (c .match .rest .0 .1), ne-eqb _ _ (c .match .rest .0 .0 .1), ne-eqb _ _ (c .match .rest .0 .0 .0 .1), ne-eqb _ _ (c .match .rest .0 .0 .0 .0 .1))
+returns-6 c =
+    simp (ne-eqb _ _ (c .match .rest .1), ne-eqb _ _ (c .match .rest .0 .1), ne-eqb _ _ (c .match .rest .0 .0 .1), ne-eqb _ _ (c .match .rest .0 .0 .0 .1), ne-eqb _ _ (c .match .rest .0 .0 .0 .0 .1))
 
-pub of-spec : {M : Type 1} → statement M
-of-spec = tie.close (tie.spec returns returns-2 returns-3 returns-4 returns-5 returns-6)
+pub path-of-spec : {M : Type 1} → statement M
+path-of-spec = tie.close (tie.spec returns returns-2 returns-3 returns-4 returns-5 returns-6)

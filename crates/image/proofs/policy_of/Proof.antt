@@ -1,0 +1,13 @@
+-- `policy_of` gives the policy that the header's flags say.
+use borrow.Author.Needs.{needs}
+use Rattle.image.proofs.policy_of.Statement.{statement}
+use Rattle.image.proofs.policy_of.Tie as tie
+
+returns : tie.Need-returns
+returns c = rw (← c .before .flag .ensures, c .if1 .taken)
+
+returns-2 : tie.Need-returns-2
+returns-2 c = rw (← c .before .flag .ensures, c .if1 .left)
+
+pub policy-of-spec : {M : Type 1} → statement M
+policy-of-spec = tie.close (tie.spec (λ c κs. search needs) returns returns-2)
