@@ -3,44 +3,40 @@ use Prim.Native.Nat.{ℕ, _+_, _*_, _-_, _≤_, _<_}
 use native.Mathlib.Nat.{add-mul}
 use native.Mathlib.Omega.{arith}
 use mathlib.Core.Path.{_≡_, refl}
-use mathlib.Core.Bool.{Bool, true, false, _&&_}
+use mathlib.Core.Bool.{Bool, and-false}
 use mathlib.Core.List.{List, [], _∷_}
 use lib.ListN.{length, take, drop}
 use borrow.Author.Tests.{le-leb, lt-leb}
 use types.Run.{OneOf, miss}
 use denote.Enum.Declared.{tagOf}
 use Rattle.layout.specs.declared.Table.{Table}
-use Rattle.layout.specs.Layout.{headerWidth, headerHeight, headerRuns, headerFlags, showDummies}
-use Rattle.layout.specs.Layout.{nodeX, nodeY, nodeWidth, nodeHeight, nodeLabelStart, nodeLabelCount, nodeFlags, nodeLoopX, nodeLoopY, selfLoop}
-use Rattle.layout.specs.Layout.{edgeFromX, edgeFromY, edgeToX, edgeToY, edgeFlags, edgeA, edgeB, edgeC}
-use Rattle.layout.specs.Layout.{edgeLabelStart, edgeLabelCount, edgeColour, edgeLabelColour}
-use Rattle.layout.specs.Layout.{pathStep, paths, reversed, startMarker, endMarker, weightStep, weights, labelPresent}
-use Rattle.layout.specs.Layout.{subgraphX, subgraphY, subgraphWidth, subgraphHeight, subgraphLabelStart, subgraphLabelCount, subgraphColour}
-use Rattle.layout.specs.Layout.{labelEdge, labelX, labelY, labelFlags, placeable, rowHasNode}
-use Rattle.layout.specs.Layout.{elementKind, elementIndex, elementFirstRow, elementLastRow}
-use Rattle.layout.specs.Tables.{word, tableEnd, recordAt, bits, flag, field}
+use Rattle.layout.specs.Layout.{avoidNodeRows, showDummies, nodeKindStep, nodeKinds, selfLoop, pathStep, paths, flowX, reversed, startMarker, endMarker}
+use Rattle.layout.specs.Layout.{weightStep, weights, labelPresent, borderStep, borders, insideBottom, placeable, rowHasNode}
+use Rattle.layout.specs.Tables.{tableEnd, recordAt, header, bits, flag, field}
 use Rattle.cell.specs.declared.Weight.{Weight}
 use Rattle.cell.specs.OneCell.{weightOf}
 use Rattle.image.specs.declared.LabelPolicy.{LabelPolicy}
 use Rattle.image.specs.declared.Header.{Header}
+use Rattle.image.specs.declared.Four.{Four}
 use Rattle.image.specs.declared.Span.{Span}
 use Rattle.image.specs.declared.NodeKind.{NodeKind}
 use Rattle.image.specs.declared.SelfLoop.{SelfLoop}
-use Rattle.image.specs.declared.SelfLoop.the-variants as loop
+use Rattle.image.specs.declared.Node.{Node}
 use Rattle.image.specs.declared.Path.{Path}
 use Rattle.image.specs.declared.Path.the-variants.{Direct, Corner, SideChannel, MultiSegment, Orthogonal, Spline}
 use Rattle.image.specs.declared.FlowAxis.{FlowAxis}
-use Rattle.image.specs.declared.Ends.{Ends}
 use Rattle.image.specs.declared.Style.{Style}
 use Rattle.image.specs.declared.EdgeLabel.{EdgeLabel}
-use Rattle.image.specs.declared.EdgeLabel.the-variants as label
 use Rattle.image.specs.declared.Edge.{Edge}
 use Rattle.image.specs.declared.LabelPosition.{LabelPosition}
+use Rattle.image.specs.declared.Subgraph.{Subgraph}
+use Rattle.image.specs.declared.PlacedLabel.{PlacedLabel}
 use Rattle.image.specs.declared.ElementKind.{ElementKind}
-use Rattle.image.specs.Records.{policyOf, headerOf, spanAt, nodeKindAt, selfLoopAt, nodeAt, pathOf, pathAt, flowAxisOf, edgeLabelAt, edgeAt}
-use Rattle.image.specs.Records.{borderAt, positionAt, subgraphAt, placedLabelAt, elementKindOf, elementAt}
+use Rattle.image.specs.declared.Element.{Element}
+use Rattle.image.specs.Records.{policyOf, headerOf, nodeKindOf, selfLoopOf, nodeAt, pathOf, axisOf, edgeLabelOf, edgeAt}
+use Rattle.image.specs.Records.{positionOf, subgraphAt, placedLabelAt, elementKindOf, elementAt}
 use Rattle.image.specs.Spans.{spanWords, pathSpan}
-use Rattle.image.specs.Parts.{endsAt, styleOf}
+use Rattle.image.specs.Parts.{fourAt, styleOf}
 use Rattle.image.proofs.Path.{the-type}
 
 -- what lies between the beginnings of two records
@@ -73,11 +69,6 @@ pub span-outside :
 unfolding spanWords
 span-outside image t span p = simp (lt-leb _ _ p)
 
--- two tests of which the second fails do not both hold
-and-false : (test : Bool) → test && false ≡ false
-and-false true = refl
-and-false false = refl
-
 -- a span of a table that leaves the image has no words
 pub table-outside :
     (image : List ℕ) (t : Table) (span : Span) →
@@ -98,76 +89,38 @@ no-points (MultiSegment span offset) k = absurd (miss pointless 3 tt k)
 no-points (Orthogonal span) k = absurd (miss pointless 4 tt k)
 no-points Spline k = refl
 
--- what the flags of a record say, in the order in which they are read
-module _ (image : List ℕ) (table : Table) (k flags : ℕ) where
-  pub loop-set :
-      (test : Bool) (x y : ℕ) →
-      flags ≡ field image table k nodeFlags →
-      test ≡ flag flags selfLoop →
-      test ≡ true →
-      x ≡ field image table k nodeLoopX →
-      y ≡ field image table k nodeLoopY →
-      loop.At x y ≡ selfLoopAt image table k
-  unfolding selfLoopAt
-  loop-set test x y f e h p q = rw (← f, ← e, h, p, q)
+-- the header and each record, of the words and the parts by which it is read
 
-  pub loop-unset :
-      (test : Bool) →
-      flags ≡ field image table k nodeFlags →
-      test ≡ flag flags selfLoop →
-      test ≡ false →
-      loop.None ≡ selfLoopAt image table k
-  unfolding selfLoopAt
-  loop-unset test f e h = rw (← f, ← e, h)
+pub four-of :
+    (image : List ℕ) (table : Table) (k from first second third fourth : ℕ) →
+    first ≡ field image table k from →
+    second ≡ field image table k (from + 1) →
+    third ≡ field image table k (from + 2) →
+    fourth ≡ field image table k (from + 3) →
+    record { first = first; second = second; third = third; fourth = fourth } ≡ fourAt image table k from
+unfolding fourAt
+four-of image table k from first second third fourth e1 e2 e3 e4 = rw (e1, e2, e3, e4)
 
-  pub label-set :
-      (test : Bool) (span : Span) →
-      flags ≡ field image table k edgeFlags →
-      test ≡ flag flags labelPresent →
-      test ≡ true →
-      span ≡ spanAt image table k edgeLabelStart edgeLabelCount →
-      label.Present span ≡ edgeLabelAt image table k
-  unfolding edgeLabelAt
-  label-set test span f e h p = rw (← f, ← e, h, p)
-
-  pub label-unset :
-      (test : Bool) →
-      flags ≡ field image table k edgeFlags →
-      test ≡ flag flags labelPresent →
-      test ≡ false →
-      label.None ≡ edgeLabelAt image table k
-  unfolding edgeLabelAt
-  label-unset test f e h = rw (← f, ← e, h)
-
-  pub path-of :
-      (number a b c : ℕ) (path : Path) →
-      flags ≡ field image table k edgeFlags →
-      number ≡ bits flags pathStep paths →
-      path ≡ pathOf number a b c →
-      a ≡ field image table k edgeA →
-      b ≡ field image table k edgeB →
-      c ≡ field image table k edgeC →
-      path ≡ pathAt image table k
-  unfolding pathAt
-  path-of number a b c path f n e p q r = rw (e, n, f, p, q, r)
-
-  pub placed-label-of :
-      (edge x y : ℕ) (fits row : Bool) →
-      flags ≡ field image table k labelFlags →
-      row ≡ flag flags rowHasNode →
-      fits ≡ flag flags placeable →
-      edge ≡ field image table k labelEdge →
-      x ≡ field image table k labelX →
-      y ≡ field image table k labelY →
-      record { edge = edge; x = x; y = y; placeable = fits; «row_has_node» = row } ≡ placedLabelAt image table k
-  unfolding placedLabelAt
-  placed-label-of edge x y fits row f e h p q r = rw (e, h, p, q, r, f)
+pub header-of :
+    (image : List ℕ) (words : Four) (policy : LabelPolicy) (dummies : Bool) →
+    words ≡ fourAt image header 0 0 →
+    dummies ≡ flag (words .fourth) showDummies →
+    policy ≡ policyOf (flag (words .fourth) avoidNodeRows) →
+    _≡_ {A = Header} (record {
+      width = words .first;
+      height = words .second;
+      «run_capacity» = words .third;
+      policy = policy;
+      «show_dummies» = dummies;
+    }) (headerOf image)
+unfolding headerOf fourAt
+header-of image words policy dummies w d p = rw (d, p, w)
 
 pub style-is :
     (flags number : ℕ) (axis : FlowAxis) (back from to : Bool) (weight : Weight) →
     number ≡ bits flags weightStep weights →
     weight ≡ weightOf number →
-    axis ≡ flowAxisOf flags →
+    axis ≡ axisOf (flag flags flowX) →
     back ≡ flag flags reversed →
     from ≡ flag flags startMarker →
     to ≡ flag flags endMarker →
@@ -175,91 +128,96 @@ pub style-is :
 unfolding styleOf
 style-is flags number axis back from to weight n e p q r t = rw (e, n, p, q, r, t)
 
-pub header-is :
-    (image : List ℕ) (flags width height runs : ℕ) (policy : LabelPolicy) (dummies : Bool) →
-    flags ≡ word image headerFlags →
-    dummies ≡ flag flags showDummies →
-    policy ≡ policyOf flags →
-    width ≡ word image headerWidth →
-    height ≡ word image headerHeight →
-    runs ≡ word image headerRuns →
-    record { width = width; height = height; «run_capacity» = runs; policy = policy; «show_dummies» = dummies } ≡ headerOf image
-unfolding headerOf
-header-is image flags width height runs policy dummies f e h p q r = rw (e, h, p, q, r, f)
+module _ (image : List ℕ) (table : Table) (k : ℕ) where
+  pub node-of :
+      (place rest : Four) (loop-y : ℕ) (kind : NodeKind) (loop : SelfLoop) →
+      kind ≡ nodeKindOf (bits (rest .third) nodeKindStep nodeKinds) →
+      loop ≡ selfLoopOf (flag (rest .third) selfLoop) (rest .fourth) loop-y →
+      place ≡ fourAt image table k 0 →
+      rest ≡ fourAt image table k 4 →
+      loop-y ≡ field image table k 8 →
+      _≡_ {A = Node} (record {
+        x = place .first;
+        y = place .second;
+        width = place .third;
+        height = place .fourth;
+        label = record { start = rest .first; count = rest .second };
+        kind = kind;
+        «self_loop» = loop;
+      }) (nodeAt image table k)
+  unfolding nodeAt fourAt
+  node-of place rest loop-y kind loop n l p r y = rw (l, n, p, r, y)
 
-pub element-of :
-    (image : List ℕ) (elements : Table) (k number index first last : ℕ) (kind : ElementKind) →
-    number ≡ field image elements k elementKind →
-    kind ≡ elementKindOf number →
-    index ≡ field image elements k elementIndex →
-    first ≡ field image elements k elementFirstRow →
-    last ≡ field image elements k elementLastRow →
-    record { kind = kind; index = index; «first_row» = first; «last_row» = last } ≡ elementAt image elements k
-unfolding elementAt
-element-of image elements k number index first last kind n e p q r = rw (e, n, p, q, r)
+  pub edge-of :
+      (ends way look : Four) (path : Path) (style : Style) (label : EdgeLabel) →
+      label ≡ edgeLabelOf (flag (way .first) labelPresent) (record { start = look .first; count = look .second }) →
+      path ≡ pathOf (bits (way .first) pathStep paths) (way .second) (way .third) (way .fourth) →
+      style ≡ styleOf (way .first) →
+      ends ≡ fourAt image table k 0 →
+      way ≡ fourAt image table k 4 →
+      look ≡ fourAt image table k 8 →
+      _≡_ {A = Edge} (record {
+        «from_x» = ends .first;
+        «from_y» = ends .second;
+        «to_x» = ends .third;
+        «to_y» = ends .fourth;
+        path = path;
+        «flow_axis» = style .«flow_axis»;
+        reversed = style .reversed;
+        «start_marker» = style .«start_marker»;
+        «end_marker» = style .«end_marker»;
+        weight = style .weight;
+        label = label;
+        colour = look .third;
+        «label_colour» = look .fourth;
+      }) (edgeAt image table k)
+  unfolding edgeAt fourAt styleOf
+  edge-of ends way look path style label l p s e w o = rw (l, p, s, e, w, o)
 
-pub ends-of :
-    (image : List ℕ) (edges : Table) (k from-x from-y to-x to-y : ℕ) →
-    from-x ≡ field image edges k edgeFromX →
-    from-y ≡ field image edges k edgeFromY →
-    to-x ≡ field image edges k edgeToX →
-    to-y ≡ field image edges k edgeToY →
-    record { «from_x» = from-x; «from_y» = from-y; «to_x» = to-x; «to_y» = to-y } ≡ endsAt image edges k
-unfolding endsAt
-ends-of image edges k from-x from-y to-x to-y p q r t = rw (p, q, r, t)
+  pub subgraph-of :
+      (place rest : Four) (number : ℕ) (border : Weight) (position : LabelPosition) →
+      number ≡ bits (rest .third) borderStep borders →
+      border ≡ weightOf number →
+      position ≡ positionOf (flag (rest .third) insideBottom) →
+      place ≡ fourAt image table k 0 →
+      rest ≡ fourAt image table k 4 →
+      _≡_ {A = Subgraph} (record {
+        x = place .first;
+        y = place .second;
+        width = place .third;
+        height = place .fourth;
+        label = record { start = rest .first; count = rest .second };
+        border = border;
+        position = position;
+        colour = rest .fourth;
+      }) (subgraphAt image table k)
+  unfolding subgraphAt fourAt
+  subgraph-of place rest number border position n b q p r = rw (q, b, n, p, r)
 
--- a node, an edge and a subgraph of the parts by which they are read
+  pub placed-label-of :
+      (words : Four) (fits row : Bool) →
+      words ≡ fourAt image table k 0 →
+      row ≡ flag (words .fourth) rowHasNode →
+      fits ≡ flag (words .fourth) placeable →
+      _≡_ {A = PlacedLabel} (record {
+        edge = words .first;
+        x = words .second;
+        y = words .third;
+        placeable = fits;
+        «row_has_node» = row;
+      }) (placedLabelAt image table k)
+  unfolding placedLabelAt fourAt
+  placed-label-of words fits row w r f = rw (r, f, w)
 
-pub node-of :
-    (image : List ℕ) (nodes : Table) (k x y width height : ℕ) (label : Span) (kind : NodeKind) (loop : SelfLoop) →
-    x ≡ field image nodes k nodeX →
-    y ≡ field image nodes k nodeY →
-    width ≡ field image nodes k nodeWidth →
-    height ≡ field image nodes k nodeHeight →
-    label ≡ spanAt image nodes k nodeLabelStart nodeLabelCount →
-    kind ≡ nodeKindAt image nodes k →
-    loop ≡ selfLoopAt image nodes k →
-    record { x = x; y = y; width = width; height = height; label = label; kind = kind; «self_loop» = loop } ≡ nodeAt image nodes k
-unfolding nodeAt
-node-of image nodes k x y width height label kind loop e1 e2 e3 e4 e5 e6 e7 = rw (e1, e2, e3, e4, e5, e6, e7)
-
-pub edge-of :
-    (image : List ℕ) (edges : Table) (k flags : ℕ) (ends : Ends) (path : Path) (style : Style) (label : EdgeLabel) (colour label-colour : ℕ) →
-    flags ≡ field image edges k edgeFlags →
-    style ≡ styleOf flags →
-    ends ≡ endsAt image edges k →
-    path ≡ pathAt image edges k →
-    label ≡ edgeLabelAt image edges k →
-    colour ≡ field image edges k edgeColour →
-    label-colour ≡ field image edges k edgeLabelColour →
-    _≡_ {A = Edge} (record {
-      «from_x» = ends .«from_x»;
-      «from_y» = ends .«from_y»;
-      «to_x» = ends .«to_x»;
-      «to_y» = ends .«to_y»;
-      path = path;
-      «flow_axis» = style .«flow_axis»;
-      reversed = style .reversed;
-      «start_marker» = style .«start_marker»;
-      «end_marker» = style .«end_marker»;
-      weight = style .weight;
-      label = label;
-      colour = colour;
-      «label_colour» = label-colour;
-    }) (edgeAt image edges k)
-unfolding edgeAt endsAt styleOf
-edge-of image edges k flags ends path style label colour label-colour f e1 e2 e3 e4 e5 e6 = rw (e1, e2, e3, e4, e5, e6, f)
-
-pub subgraph-of :
-    (image : List ℕ) (subgraphs : Table) (k x y width height : ℕ) (label : Span) (border : Weight) (position : LabelPosition) (colour : ℕ) →
-    x ≡ field image subgraphs k subgraphX →
-    y ≡ field image subgraphs k subgraphY →
-    width ≡ field image subgraphs k subgraphWidth →
-    height ≡ field image subgraphs k subgraphHeight →
-    label ≡ spanAt image subgraphs k subgraphLabelStart subgraphLabelCount →
-    border ≡ borderAt image subgraphs k →
-    position ≡ positionAt image subgraphs k →
-    colour ≡ field image subgraphs k subgraphColour →
-    record { x = x; y = y; width = width; height = height; label = label; border = border; position = position; colour = colour } ≡ subgraphAt image subgraphs k
-unfolding subgraphAt
-subgraph-of image subgraphs k x y width height label border position colour e1 e2 e3 e4 e5 e6 e7 e8 = rw (e1, e2, e3, e4, e5, e6, e7, e8)
+  pub element-of :
+      (words : Four) (kind : ElementKind) →
+      kind ≡ elementKindOf (words .first) →
+      words ≡ fourAt image table k 0 →
+      _≡_ {A = Element} (record {
+        kind = kind;
+        index = words .second;
+        «first_row» = words .third;
+        «last_row» = words .fourth;
+      }) (elementAt image table k)
+  unfolding elementAt fourAt
+  element-of words kind e w = rw (e, w)

@@ -1,9 +1,8 @@
 -- The header and each record by its fields. Every reading is of any words: a word past the end reads 0.
 use Prim.Native.Nat.{ℕ}
-use mathlib.Core.Bool.{cond}
+use mathlib.Core.Bool.{Bool, cond}
 use mathlib.Core.List.{List}
 use lib.Dec.{eqb}
-use Rattle.cell.specs.declared.Weight.{Weight}
 use Rattle.cell.specs.OneCell.{weightOf}
 use Rattle.layout.specs.declared.Table.{Table}
 use Rattle.layout.specs.declared.Tables.{Tables}
@@ -45,15 +44,15 @@ use Rattle.image.specs.declared.Element.{Element}
 
 -- "Header, 12 words: width, height, run capacity, flags (label policy 1 bit: 0 Geometric, 1 AvoidNodeRows; show dummies 1 bit), then counts"
 
-abbrev pub policyOf : ℕ → LabelPolicy
-policyOf flags = cond (flag flags avoidNodeRows) AvoidNodeRows Geometric
+abbrev pub policyOf : Bool → LabelPolicy
+policyOf avoid = cond avoid AvoidNodeRows Geometric
 
 unfoldable pub headerOf : List ℕ → Header
 headerOf image = record {
   width = word image headerWidth;
   height = word image headerHeight;
   «run_capacity» = word image headerRuns;
-  policy = policyOf (word image headerFlags);
+  policy = policyOf (flag (word image headerFlags) avoidNodeRows);
   «show_dummies» = flag (word image headerFlags) showDummies;
 }
 
@@ -64,16 +63,11 @@ spanAt image table k start count = record { start = field image table k start; c
 -- "node, 9: x, y, width, height, label start, label count, flags (kind 2 bits: 0 simple, 1 boxed, 2 blank, 3 dummy; self-loop 1 bit), loop x, loop y
 -- (both 0 without the bit)"
 
-abbrev pub nodeKindOf : ℕ → NodeKind
-nodeKindOf number = cond (eqb number 0) Simple (cond (eqb number 1) Boxed (cond (eqb number 2) Blank Dummy))
+unfoldable pub nodeKindOf : ℕ → NodeKind
+nodeKindOf n = cond (eqb n 0) Simple (cond (eqb n 1) Boxed (cond (eqb n 2) Blank Dummy))
 
-unfoldable pub nodeKindAt : List ℕ → Table → ℕ → NodeKind
-nodeKindAt image nodes k = nodeKindOf (bits (field image nodes k nodeFlags) nodeKindStep nodeKinds)
-
-unfoldable pub selfLoopAt : List ℕ → Table → ℕ → SelfLoop
-selfLoopAt image nodes k =
-    cond (flag (field image nodes k nodeFlags) selfLoop)
-    (loop.At (field image nodes k nodeLoopX) (field image nodes k nodeLoopY)) loop.None
+unfoldable pub selfLoopOf : Bool → ℕ → ℕ → SelfLoop
+selfLoopOf present x y = cond present (loop.At x y) loop.None
 
 unfoldable pub nodeAt : List ℕ → Table → ℕ → Node
 nodeAt image nodes k = record {
@@ -82,12 +76,11 @@ nodeAt image nodes k = record {
   width = field image nodes k nodeWidth;
   height = field image nodes k nodeHeight;
   label = spanAt image nodes k nodeLabelStart nodeLabelCount;
-  kind = nodeKindAt image nodes k;
-  «self_loop» = selfLoopAt image nodes k;
+  kind = nodeKindOf (bits (field image nodes k nodeFlags) nodeKindStep nodeKinds);
+  «self_loop» =
+      selfLoopOf (flag (field image nodes k nodeFlags) selfLoop) (field image nodes k nodeLoopX)
+      (field image nodes k nodeLoopY);
 }
-
--- "edge, 12: from x, from y, to x, to y, flags, a, b, c, label start, label count, colour, label colour. Flags: path 3 bits, flow axis 1 (0 Y, 1 X),
--- reversed 1, start marker 1, end marker 1, weight 2 (1 Dashed, 2 Light, 3 Double), label present 1 (else start and count 0)."
 
 -- "Corner: a bend. SideChannel: channel, span start, span end. MultiSegment: first point, count, start offset. Orthogonal: first point, count." A number
 -- that is no path's reads as Direct.
@@ -99,32 +92,33 @@ pathOf number a b c =
     (cond (eqb number pathOrthogonal) (Orthogonal (record { start = a; count = b }))
     (cond (eqb number pathSpline) Spline Direct))))
 
-unfoldable pub pathAt : List ℕ → Table → ℕ → Path
-pathAt image edges k =
-    pathOf (bits (field image edges k edgeFlags) pathStep paths) (field image edges k edgeA) (field image edges k edgeB)
-    (field image edges k edgeC)
+-- "flow axis 1 (0 Y, 1 X)"
+abbrev pub axisOf : Bool → FlowAxis
+axisOf across = cond across X Y
 
-abbrev pub flowAxisOf : ℕ → FlowAxis
-flowAxisOf flags = cond (flag flags flowX) X Y
+-- "label present 1 (else start and count 0)"
+unfoldable pub edgeLabelOf : Bool → Span → EdgeLabel
+edgeLabelOf present span = cond present (label.Present span) label.None
 
-unfoldable pub edgeLabelAt : List ℕ → Table → ℕ → EdgeLabel
-edgeLabelAt image edges k =
-    cond (flag (field image edges k edgeFlags) labelPresent)
-    (label.Present (spanAt image edges k edgeLabelStart edgeLabelCount)) label.None
-
+-- "edge, 12: from x, from y, to x, to y, flags, a, b, c, label start, label count, colour, label colour. Flags: path 3 bits, flow axis 1 (0 Y, 1 X),
+-- reversed 1, start marker 1, end marker 1, weight 2 (1 Dashed, 2 Light, 3 Double), label present 1"
 unfoldable pub edgeAt : List ℕ → Table → ℕ → Edge
 edgeAt image edges k = record {
   «from_x» = field image edges k edgeFromX;
   «from_y» = field image edges k edgeFromY;
   «to_x» = field image edges k edgeToX;
   «to_y» = field image edges k edgeToY;
-  path = pathAt image edges k;
-  «flow_axis» = flowAxisOf (field image edges k edgeFlags);
+  path =
+      pathOf (bits (field image edges k edgeFlags) pathStep paths) (field image edges k edgeA)
+      (field image edges k edgeB) (field image edges k edgeC);
+  «flow_axis» = axisOf (flag (field image edges k edgeFlags) flowX);
   reversed = flag (field image edges k edgeFlags) reversed;
   «start_marker» = flag (field image edges k edgeFlags) startMarker;
   «end_marker» = flag (field image edges k edgeFlags) endMarker;
   weight = weightOf (bits (field image edges k edgeFlags) weightStep weights);
-  label = edgeLabelAt image edges k;
+  label =
+      edgeLabelOf (flag (field image edges k edgeFlags) labelPresent)
+      (spanAt image edges k edgeLabelStart edgeLabelCount);
   colour = field image edges k edgeColour;
   «label_colour» = field image edges k edgeLabelColour;
 }
@@ -132,11 +126,8 @@ edgeAt image edges k = record {
 -- "subgraph, 8: x, y, width, height, label start, label count, flags (border 2 bits, 0 none, else as edge weight; label position 1 bit, 0 InsideTop,
 -- 1 InsideBottom), colour (0 keeps what is there)"
 
-abbrev pub borderAt : List ℕ → Table → ℕ → Weight
-borderAt image subgraphs k = weightOf (bits (field image subgraphs k subgraphFlags) borderStep borders)
-
-abbrev pub positionAt : List ℕ → Table → ℕ → LabelPosition
-positionAt image subgraphs k = cond (flag (field image subgraphs k subgraphFlags) insideBottom) InsideBottom InsideTop
+abbrev pub positionOf : Bool → LabelPosition
+positionOf bottom = cond bottom InsideBottom InsideTop
 
 unfoldable pub subgraphAt : List ℕ → Table → ℕ → Subgraph
 subgraphAt image subgraphs k = record {
@@ -145,8 +136,8 @@ subgraphAt image subgraphs k = record {
   width = field image subgraphs k subgraphWidth;
   height = field image subgraphs k subgraphHeight;
   label = spanAt image subgraphs k subgraphLabelStart subgraphLabelCount;
-  border = borderAt image subgraphs k;
-  position = positionAt image subgraphs k;
+  border = weightOf (bits (field image subgraphs k subgraphFlags) borderStep borders);
+  position = positionOf (flag (field image subgraphs k subgraphFlags) insideBottom);
   colour = field image subgraphs k subgraphColour;
 }
 
@@ -163,7 +154,7 @@ placedLabelAt image labels k = record {
 -- "element, 4: kind (0 Node, 1 Edge, 2 Subgraph), index, first row, last row"
 
 unfoldable pub elementKindOf : ℕ → ElementKind
-elementKindOf number = cond (eqb number 0) kind.Node (cond (eqb number 1) kind.Edge kind.Subgraph)
+elementKindOf n = cond (eqb n 0) kind.Node (cond (eqb n 1) kind.Edge kind.Subgraph)
 
 abbrev pub elementKindNumber : ElementKind → ℕ
 elementKindNumber kind.Node = 0

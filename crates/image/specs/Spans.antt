@@ -24,7 +24,6 @@ spanWords image table span =
     []
 
 -- the points of a path: "MultiSegment: first point, count, start offset. Orthogonal: first point, count."
-
 abbrev pub pathSpan : Path → Span
 pathSpan Direct = record { start = 0; count = 0 }
 pathSpan (Corner bend) = record { start = 0; count = 0 }

@@ -4,19 +4,18 @@ ghost use mathlib.Core.Path.{_≡_};
 ghost use Prim.Native.Nat.{_+_, _*_, _/_, _≤_, _<_};
 ghost use lib.ListN.{length};
 ghost use Rattle.layout.specs.Layout.{pointSize};
-ghost use Rattle.layout.specs.Tables.{field};
-ghost use Rattle.layout.specs.Small.{Small, AllSmall};
-ghost use Rattle.image.specs.Records.{policyOf, headerOf, spanAt, nodeKindAt, selfLoopAt, nodeAt, pathOf, pathAt, flowAxisOf, edgeLabelAt, edgeAt};
-ghost use Rattle.image.specs.Records.{borderAt, positionAt, subgraphAt, placedLabelAt, elementKindOf, elementKindNumber, thingTable, elementAt};
+ghost use Rattle.layout.specs.Tables.{bits, flag};
+ghost use Rattle.layout.specs.Small.{Small};
+ghost use Rattle.layout.specs.Layout.{avoidNodeRows, nodeKindStep, nodeKinds, selfLoop, pathStep, paths, flowX, labelPresent, insideBottom};
+ghost use Rattle.image.specs.Records.{policyOf, headerOf, nodeKindOf, selfLoopOf, nodeAt, pathOf, axisOf, edgeLabelOf, edgeAt};
+ghost use Rattle.image.specs.Records.{positionOf, subgraphAt, placedLabelAt, elementKindOf, elementKindNumber, elementAt};
 ghost use Rattle.image.specs.Spans.{spanWords, pathSpan, pointsOf, tableWords, pointCount, pointAt};
-ghost use Rattle.image.specs.Parts.{endsAt, styleOf};
+ghost use Rattle.image.specs.Parts.{fourAt, styleOf};
 use cell::Weight;
 use layout::Table;
-use layout::Tables;
 use layout::bits;
 use layout::field;
 use layout::flag;
-use layout::word;
 
 // When a placed label is painted.
 pub enum LabelPolicy {
@@ -39,8 +38,29 @@ pub struct Header {
     pub show_dummies: bool,
 }
 
+// Four words of a record that follow one another.
+struct Four {
+    first: u32,
+    second: u32,
+    third: u32,
+    fourth: u32,
+}
+
+// The four words of record k from an offset on.
+fn four_at(image: &[u32], table: Table, k: usize, from: usize) -> Four
+    requires { ⌜ Small table × (k < 4294967296) × (from ≤ 12) ⌝ }
+    ensures { λ r. ⌜ r ≡ fourAt (now (image .entry)) table k from ⌝ }
+{
+    Four {
+        first: field(image, table, k, from),
+        second: field(image, table, k, from + 1),
+        third: field(image, table, k, from + 2),
+        fourth: field(image, table, k, from + 3),
+    }
+}
+
 fn policy_of(flags: u32) -> LabelPolicy
-    ensures { λ r. ⌜ r ≡ policyOf flags ⌝ }
+    ensures { λ r. ⌜ r ≡ policyOf (flag flags avoidNodeRows) ⌝ }
 {
     if flag(flags, layout::AVOID_NODE_ROWS) {
         LabelPolicy::AvoidNodeRows
@@ -52,16 +72,19 @@ fn policy_of(flags: u32) -> LabelPolicy
 pub fn header_of(image: &[u32]) -> Header
     ensures { λ r. ⌜ r ≡ headerOf (now (image .entry)) ⌝ }
 {
-    let width = word(image, layout::HEADER_WIDTH);
-    let height = word(image, layout::HEADER_HEIGHT);
-    let run_capacity = word(image, layout::HEADER_RUNS);
-    let flags = word(image, layout::HEADER_FLAGS);
+    let header = Table {
+        start: 0,
+        count: 1,
+        size: layout::HEADER_SIZE,
+    };
+    // width, height, run capacity, flags
+    let words = four_at(image, header, 0, layout::HEADER_WIDTH);
     Header {
-        width: width,
-        height: height,
-        run_capacity: run_capacity,
-        policy: policy_of(flags),
-        show_dummies: flag(flags, layout::SHOW_DUMMIES),
+        width: words.first,
+        height: words.second,
+        run_capacity: words.third,
+        policy: policy_of(words.fourth),
+        show_dummies: flag(words.fourth, layout::SHOW_DUMMIES),
     }
 }
 
@@ -71,17 +94,6 @@ pub struct Span {
     pub start: u32,
     // how many records it has
     pub count: u32,
-}
-
-// A span as two fields of record k.
-fn span_at(image: &[u32], table: Table, k: usize, start: usize, count: usize) -> Span
-    requires { ⌜ Small table × (k < 4294967296) × (start ≤ 16) × (count ≤ 16) ⌝ }
-    ensures { λ r. ⌜ r ≡ spanAt (now (image .entry)) table k start count ⌝ }
-{
-    Span {
-        start: field(image, table, k, start),
-        count: field(image, table, k, count),
-    }
 }
 
 // The words of a span's records, or the empty part where the span leaves its table or the table the image.
@@ -136,11 +148,9 @@ pub struct Node {
     pub self_loop: SelfLoop,
 }
 
-fn node_kind_at(image: &[u32], nodes: Table, k: usize) -> NodeKind
-    requires { ⌜ Small nodes × (k < 4294967296) ⌝ }
-    ensures { λ r. ⌜ r ≡ nodeKindAt (now (image .entry)) nodes k ⌝ }
+fn node_kind_of(flags: u32) -> NodeKind
+    ensures { λ r. ⌜ r ≡ nodeKindOf (bits flags nodeKindStep nodeKinds) ⌝ }
 {
-    let flags = field(image, nodes, k, layout::NODE_FLAGS);
     match bits(flags, layout::NODE_KIND_STEP, layout::NODE_KINDS) {
         0 => NodeKind::Simple,
         1 => NodeKind::Boxed,
@@ -149,13 +159,9 @@ fn node_kind_at(image: &[u32], nodes: Table, k: usize) -> NodeKind
     }
 }
 
-fn self_loop_at(image: &[u32], nodes: Table, k: usize) -> SelfLoop
-    requires { ⌜ Small nodes × (k < 4294967296) ⌝ }
-    ensures { λ r. ⌜ r ≡ selfLoopAt (now (image .entry)) nodes k ⌝ }
+fn self_loop_of(flags: u32, x: u32, y: u32) -> SelfLoop
+    ensures { λ r. ⌜ r ≡ selfLoopOf (flag flags selfLoop) x y ⌝ }
 {
-    let x = field(image, nodes, k, layout::NODE_LOOP_X);
-    let y = field(image, nodes, k, layout::NODE_LOOP_Y);
-    let flags = field(image, nodes, k, layout::NODE_FLAGS);
     if flag(flags, layout::SELF_LOOP) {
         SelfLoop::At { x: x, y: y }
     } else {
@@ -167,20 +173,22 @@ pub fn node_at(image: &[u32], nodes: Table, k: usize) -> Node
     requires { ⌜ Small nodes × (k < 4294967296) ⌝ }
     ensures { λ r. ⌜ r ≡ nodeAt (now (image .entry)) nodes k ⌝ }
 {
+    // x, y, width, height
+    let place = four_at(image, nodes, k, layout::NODE_X);
+    // label start, label count, flags, loop x
+    let rest = four_at(image, nodes, k, layout::NODE_LABEL_START);
+    let loop_y = field(image, nodes, k, layout::NODE_LOOP_Y);
     Node {
-        x: field(image, nodes, k, layout::NODE_X),
-        y: field(image, nodes, k, layout::NODE_Y),
-        width: field(image, nodes, k, layout::NODE_WIDTH),
-        height: field(image, nodes, k, layout::NODE_HEIGHT),
-        label: span_at(
-            image,
-            nodes,
-            k,
-            layout::NODE_LABEL_START,
-            layout::NODE_LABEL_COUNT,
-        ),
-        kind: node_kind_at(image, nodes, k),
-        self_loop: self_loop_at(image, nodes, k),
+        x: place.first,
+        y: place.second,
+        width: place.third,
+        height: place.fourth,
+        label: Span {
+            start: rest.first,
+            count: rest.second,
+        },
+        kind: node_kind_of(rest.third),
+        self_loop: self_loop_of(rest.third, rest.fourth, loop_y),
     }
 }
 
@@ -252,26 +260,6 @@ pub struct Edge {
     pub label_colour: u32,
 }
 
-// Where an edge begins and ends.
-struct Ends {
-    from_x: u32,
-    from_y: u32,
-    to_x: u32,
-    to_y: u32,
-}
-
-fn ends_at(image: &[u32], edges: Table, k: usize) -> Ends
-    requires { ⌜ Small edges × (k < 4294967296) ⌝ }
-    ensures { λ r. ⌜ r ≡ endsAt (now (image .entry)) edges k ⌝ }
-{
-    Ends {
-        from_x: field(image, edges, k, layout::EDGE_FROM_X),
-        from_y: field(image, edges, k, layout::EDGE_FROM_Y),
-        to_x: field(image, edges, k, layout::EDGE_TO_X),
-        to_y: field(image, edges, k, layout::EDGE_TO_Y),
-    }
-}
-
 // What an edge's flags say beside its path and its label.
 struct Style {
     flow_axis: FlowAxis,
@@ -282,7 +270,7 @@ struct Style {
 }
 
 fn flow_axis_of(flags: u32) -> FlowAxis
-    ensures { λ r. ⌜ r ≡ flowAxisOf flags ⌝ }
+    ensures { λ r. ⌜ r ≡ axisOf (flag flags flowX) ⌝ }
 {
     if flag(flags, layout::FLOW_X) {
         FlowAxis::X
@@ -303,11 +291,11 @@ fn style_of(flags: u32) -> Style
     }
 }
 
-// The path of a number and its three words.
-fn path_of(number: u32, a: u32, b: u32, c: u32) -> Path
-    ensures { λ r. ⌜ r ≡ pathOf number a b c ⌝ }
+// The path that an edge's flags and three words say.
+fn path_of(flags: u32, a: u32, b: u32, c: u32) -> Path
+    ensures { λ r. ⌜ r ≡ pathOf (bits flags pathStep paths) a b c ⌝ }
 {
-    match number {
+    match bits(flags, layout::PATH_STEP, layout::PATHS) {
         layout::PATH_CORNER => Path::Corner(a),
         layout::PATH_SIDE_CHANNEL => Path::SideChannel {
             channel: a,
@@ -324,30 +312,14 @@ fn path_of(number: u32, a: u32, b: u32, c: u32) -> Path
     }
 }
 
-fn path_at(image: &[u32], edges: Table, k: usize) -> Path
-    requires { ⌜ Small edges × (k < 4294967296) ⌝ }
-    ensures { λ r. ⌜ r ≡ pathAt (now (image .entry)) edges k ⌝ }
+fn edge_label_of(flags: u32, start: u32, count: u32) -> EdgeLabel
+    ensures { λ r. ⌜ r ≡ edgeLabelOf (flag flags labelPresent) (record { start = start; count = count }) ⌝ }
 {
-    let a = field(image, edges, k, layout::EDGE_A);
-    let b = field(image, edges, k, layout::EDGE_B);
-    let c = field(image, edges, k, layout::EDGE_C);
-    let flags = field(image, edges, k, layout::EDGE_FLAGS);
-    path_of(bits(flags, layout::PATH_STEP, layout::PATHS), a, b, c)
-}
-
-fn edge_label_at(image: &[u32], edges: Table, k: usize) -> EdgeLabel
-    requires { ⌜ Small edges × (k < 4294967296) ⌝ }
-    ensures { λ r. ⌜ r ≡ edgeLabelAt (now (image .entry)) edges k ⌝ }
-{
-    let flags = field(image, edges, k, layout::EDGE_FLAGS);
     if flag(flags, layout::LABEL_PRESENT) {
-        EdgeLabel::Present(span_at(
-            image,
-            edges,
-            k,
-            layout::EDGE_LABEL_START,
-            layout::EDGE_LABEL_COUNT,
-        ))
+        EdgeLabel::Present(Span {
+            start: start,
+            count: count,
+        })
     } else {
         EdgeLabel::None
     }
@@ -357,28 +329,29 @@ pub fn edge_at(image: &[u32], edges: Table, k: usize) -> Edge
     requires { ⌜ Small edges × (k < 4294967296) ⌝ }
     ensures { λ r. ⌜ r ≡ edgeAt (now (image .entry)) edges k ⌝ }
 {
-    let ends = ends_at(image, edges, k);
-    let path = path_at(image, edges, k);
-    let label = edge_label_at(image, edges, k);
-    let colour = field(image, edges, k, layout::EDGE_COLOUR);
-    let label_colour = field(image, edges, k, layout::EDGE_LABEL_COLOUR);
-    let style = style_of(field(image, edges, k, layout::EDGE_FLAGS));
+    // from x, from y, to x, to y
+    let ends = four_at(image, edges, k, layout::EDGE_FROM_X);
+    // flags, a, b, c
+    let way = four_at(image, edges, k, layout::EDGE_FLAGS);
+    // label start, label count, colour, label colour
+    let look = four_at(image, edges, k, layout::EDGE_LABEL_START);
+    let style = style_of(way.first);
     let flow_axis = style.flow_axis;
     let weight = style.weight;
     Edge {
-        from_x: ends.from_x,
-        from_y: ends.from_y,
-        to_x: ends.to_x,
-        to_y: ends.to_y,
-        path: path,
+        from_x: ends.first,
+        from_y: ends.second,
+        to_x: ends.third,
+        to_y: ends.fourth,
+        path: path_of(way.first, way.second, way.third, way.fourth),
         flow_axis: flow_axis,
         reversed: style.reversed,
         start_marker: style.start_marker,
         end_marker: style.end_marker,
         weight: weight,
-        label: label,
-        colour: colour,
-        label_colour: label_colour,
+        label: edge_label_of(way.first, look.first, look.second),
+        colour: look.third,
+        label_colour: look.fourth,
     }
 }
 
@@ -408,19 +381,9 @@ pub struct Subgraph {
     pub colour: u32,
 }
 
-fn border_at(image: &[u32], subgraphs: Table, k: usize) -> Weight
-    requires { ⌜ Small subgraphs × (k < 4294967296) ⌝ }
-    ensures { λ r. ⌜ r ≡ borderAt (now (image .entry)) subgraphs k ⌝ }
+fn position_of(flags: u32) -> LabelPosition
+    ensures { λ r. ⌜ r ≡ positionOf (flag flags insideBottom) ⌝ }
 {
-    let flags = field(image, subgraphs, k, layout::SUBGRAPH_FLAGS);
-    Weight::from_bits(bits(flags, layout::BORDER_STEP, layout::BORDERS))
-}
-
-fn position_at(image: &[u32], subgraphs: Table, k: usize) -> LabelPosition
-    requires { ⌜ Small subgraphs × (k < 4294967296) ⌝ }
-    ensures { λ r. ⌜ r ≡ positionAt (now (image .entry)) subgraphs k ⌝ }
-{
-    let flags = field(image, subgraphs, k, layout::SUBGRAPH_FLAGS);
     if flag(flags, layout::INSIDE_BOTTOM) {
         LabelPosition::InsideBottom
     } else {
@@ -432,21 +395,22 @@ pub fn subgraph_at(image: &[u32], subgraphs: Table, k: usize) -> Subgraph
     requires { ⌜ Small subgraphs × (k < 4294967296) ⌝ }
     ensures { λ r. ⌜ r ≡ subgraphAt (now (image .entry)) subgraphs k ⌝ }
 {
+    // x, y, width, height
+    let place = four_at(image, subgraphs, k, layout::SUBGRAPH_X);
+    // label start, label count, flags, colour
+    let rest = four_at(image, subgraphs, k, layout::SUBGRAPH_LABEL_START);
     Subgraph {
-        x: field(image, subgraphs, k, layout::SUBGRAPH_X),
-        y: field(image, subgraphs, k, layout::SUBGRAPH_Y),
-        width: field(image, subgraphs, k, layout::SUBGRAPH_WIDTH),
-        height: field(image, subgraphs, k, layout::SUBGRAPH_HEIGHT),
-        label: span_at(
-            image,
-            subgraphs,
-            k,
-            layout::SUBGRAPH_LABEL_START,
-            layout::SUBGRAPH_LABEL_COUNT,
-        ),
-        border: border_at(image, subgraphs, k),
-        position: position_at(image, subgraphs, k),
-        colour: field(image, subgraphs, k, layout::SUBGRAPH_COLOUR),
+        x: place.first,
+        y: place.second,
+        width: place.third,
+        height: place.fourth,
+        label: Span {
+            start: rest.first,
+            count: rest.second,
+        },
+        border: Weight::from_bits(bits(rest.third, layout::BORDER_STEP, layout::BORDERS)),
+        position: position_of(rest.third),
+        colour: rest.fourth,
     }
 }
 
@@ -468,16 +432,14 @@ pub fn placed_label_at(image: &[u32], labels: Table, k: usize) -> PlacedLabel
     requires { ⌜ Small labels × (k < 4294967296) ⌝ }
     ensures { λ r. ⌜ r ≡ placedLabelAt (now (image .entry)) labels k ⌝ }
 {
-    let edge = field(image, labels, k, layout::LABEL_EDGE);
-    let x = field(image, labels, k, layout::LABEL_X);
-    let y = field(image, labels, k, layout::LABEL_Y);
-    let flags = field(image, labels, k, layout::LABEL_FLAGS);
+    // edge, x, y, flags
+    let words = four_at(image, labels, k, layout::LABEL_EDGE);
     PlacedLabel {
-        edge: edge,
-        x: x,
-        y: y,
-        placeable: flag(flags, layout::PLACEABLE),
-        row_has_node: flag(flags, layout::ROW_HAS_NODE),
+        edge: words.first,
+        x: words.second,
+        y: words.third,
+        placeable: flag(words.fourth, layout::PLACEABLE),
+        row_has_node: flag(words.fourth, layout::ROW_HAS_NODE),
     }
 }
 
@@ -521,30 +483,17 @@ pub fn element_kind_number(kind: ElementKind) -> u32
     }
 }
 
-// The table of a kind of thing.
-pub fn thing_table(kind: ElementKind, ts: Tables) -> Table
-    requires { ⌜ AllSmall ts ⌝ }
-    ensures { λ r. ⌜ (r ≡ thingTable kind ts) × Small r ⌝ }
-{
-    match kind {
-        ElementKind::Node => ts.nodes,
-        ElementKind::Edge => ts.edges,
-        ElementKind::Subgraph => ts.subgraphs,
-    }
-}
-
 pub fn element_at(image: &[u32], elements: Table, k: usize) -> Element
     requires { ⌜ Small elements × (k < 4294967296) ⌝ }
     ensures { λ r. ⌜ r ≡ elementAt (now (image .entry)) elements k ⌝ }
 {
-    let index = field(image, elements, k, layout::ELEMENT_INDEX);
-    let first_row = field(image, elements, k, layout::ELEMENT_FIRST_ROW);
-    let last_row = field(image, elements, k, layout::ELEMENT_LAST_ROW);
+    // kind, index, first row, last row
+    let words = four_at(image, elements, k, layout::ELEMENT_KIND);
     Element {
-        kind: ElementKind::of(field(image, elements, k, layout::ELEMENT_KIND)),
-        index: index,
-        first_row: first_row,
-        last_row: last_row,
+        kind: ElementKind::of(words.first),
+        index: words.second,
+        first_row: words.third,
+        last_row: words.fourth,
     }
 }
 
