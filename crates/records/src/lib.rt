@@ -56,15 +56,20 @@ fn loop_good(flags: u32, n: u32) -> bool
     }
 }
 
+// A loop coordinate that breaks its rule.
+fn bad_loop_word(before: Found, image: &[u32], flags: u32, place: usize) -> Found
+    ensures { λ r. ⌜ r ≡ orUnless before (loopGood flags (word (now (image .entry)) place)) place ⌝ }
+{
+    or_unless(before, loop_good(flags, word(image, place)), place)
+}
+
 fn bad_loop(before: Found, image: &[u32], at: usize) -> Found
     requires { ⌜ at < 0x20000000000 ⌝ }
     ensures { λ r. ⌜ r ≡ orWords before at nodeLoopX (loopRules (wordsAt (now (image .entry)) at)) ⌝ }
 {
     let flags = word(image, at + layout::NODE_FLAGS);
-    let x = loop_good(flags, word(image, at + layout::NODE_LOOP_X));
-    let y = loop_good(flags, word(image, at + layout::NODE_LOOP_Y));
-    let bad_x = or_unless(before, x, at + layout::NODE_LOOP_X);
-    or_unless(bad_x, y, at + layout::NODE_LOOP_Y)
+    let x = bad_loop_word(before, image, flags, at + layout::NODE_LOOP_X);
+    bad_loop_word(x, image, flags, at + layout::NODE_LOOP_Y)
 }
 
 // A node, where so many glyphs are held.
@@ -164,13 +169,11 @@ fn path_at(image: &[u32], at: usize, points: usize) -> PathWords
     requires { ⌜ at < 0x20000000000 ⌝ }
     ensures { λ r. ⌜ r ≡ edgePath points (wordsAt (now (image .entry)) at) ⌝ }
 {
-    path_good(
-        points,
-        path_number(word(image, at + layout::EDGE_FLAGS)),
-        word(image, at + layout::EDGE_A),
-        word(image, at + layout::EDGE_B),
-        word(image, at + layout::EDGE_C),
-    )
+    let a = word(image, at + layout::EDGE_A);
+    let b = word(image, at + layout::EDGE_B);
+    let c = word(image, at + layout::EDGE_C);
+    let flags = word(image, at + layout::EDGE_FLAGS);
+    path_good(points, path_number(flags), a, b, c)
 }
 
 fn bad_path(before: Found, image: &[u32], at: usize, points: usize) -> Found

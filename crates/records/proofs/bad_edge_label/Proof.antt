@@ -6,7 +6,17 @@ use Rattle.records.proofs.bad_edge_label.Tie as tie
 
 returns : tie.Need-returns
 unfolding orWords
-returns c = cc
+returns c =
+    let judged = c .before .before .before in
+    rw (
+      c .or-unless2 .ensures,
+      c .before .label-count-good .ensures,
+      c .before .before .or-unless .ensures,
+      judged .label-start-good .ensures,
+      judged .before .word3 .ensures,
+      judged .before .before .word2 .ensures,
+      judged .before .before .before .word .ensures,
+    )
 
 pub bad-edge-label-spec : {M : Type 1} → statement M
 bad-edge-label-spec =

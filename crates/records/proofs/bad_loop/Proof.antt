@@ -6,19 +6,13 @@ use Rattle.records.proofs.bad_loop.Tie as tie
 
 returns : tie.Need-returns
 unfolding orWords
-returns c = cc
+returns c = rw (c .bad-loop-word2 .ensures, c .before .bad-loop-word .ensures, c .before .before .word .ensures)
 
 pub bad-loop-spec : {M : Type 1} → statement M
 bad-loop-spec =
     tie.close
     (tie.spec
     (λ c. search needs)
-    (λ c κs. search needs)
-    (λ c. search needs)
-    (λ c κs. search needs)
-    (λ c κs. search needs)
-    (λ c. search needs)
-    (λ c κs. search needs)
     (λ c κs. search needs)
     (λ c. search needs)
     (λ c κs. search needs)

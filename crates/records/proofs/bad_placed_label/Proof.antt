@@ -8,7 +8,7 @@ use Rattle.records.proofs.bad_placed_label.Tie as tie
 
 returns : tie.Need-returns
 unfolding placedLabelRules orWords
-returns c = in-turn _ _ _ _ (cc)
+returns c = in-turn _ _ _ _ (rw (c .clear .ensures, c .before .at-most2 .ensures, c .before .before .at-most .ensures, c .before .before .before .below .ensures))
 
 pub bad-placed-label-spec : {M : Type 1} → statement M
 bad-placed-label-spec =

@@ -8,7 +8,7 @@ use Rattle.records.proofs.bad_point.Tie as tie
 
 returns : tie.Need-returns
 unfolding pointRules orWords
-returns c = in-turn _ _ _ _ (cc)
+returns c = in-turn _ _ _ _ (rw (c .at-most2 .ensures, c .before .at-most .ensures))
 
 pub bad-point-spec : {M : Type 1} → statement M
 bad-point-spec =

@@ -8,7 +8,16 @@ use Rattle.records.proofs.bad_range_words.Tie as tie
 
 returns : tie.Need-returns
 unfolding rangeRules orWords
-returns c = in-turn _ _ _ _ (cc)
+returns c =
+    let read = c .before .before in
+    in-turn _ _ _ _
+    (rw (
+      c .or-unless .ensures,
+      c .before .width-good .ensures,
+      read .word .ensures,
+      read .before .at-most2 .ensures,
+      read .before .before .at-most .ensures,
+    ))
 
 pub bad-range-words-spec : {M : Type 1} → statement M
 bad-range-words-spec =

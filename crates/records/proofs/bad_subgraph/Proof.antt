@@ -8,7 +8,7 @@ use Rattle.records.proofs.bad_subgraph.Tie as tie
 
 returns : tie.Need-returns
 unfolding subgraphRules orWords
-returns c = in-turn _ _ _ _ (cc)
+returns c = in-turn _ _ _ _ (rw (c .clear .ensures, c .before .inside .ensures, c .before .before .four-at-most .ensures))
 
 pub bad-subgraph-spec : {M : Type 1} → statement M
 bad-subgraph-spec =

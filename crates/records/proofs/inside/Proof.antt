@@ -4,7 +4,8 @@ use Rattle.records.proofs.inside.Statement.{statement}
 use Rattle.records.proofs.inside.Tie as tie
 
 returns : tie.Need-returns
-returns c = cc
+returns c =
+    rw (c .or-unless .ensures, c .before .span-good .ensures, c .before .before .word2 .ensures, c .before .before .before .word .ensures)
 
 pub inside-spec : {M : Type 1} → statement M
 inside-spec =

@@ -4,7 +4,16 @@ use Rattle.records.proofs.path_at.Statement.{statement}
 use Rattle.records.proofs.path_at.Tie as tie
 
 returns : tie.Need-returns
-returns c = cc
+returns c =
+    let read = c .before .before in
+    rw (
+      c .path-good .ensures,
+      c .before .path-number .ensures,
+      read .word4 .ensures,
+      read .before .word3 .ensures,
+      read .before .before .word2 .ensures,
+      read .before .before .before .word .ensures,
+    )
 
 pub path-at-spec : {M : Type 1} → statement M
 path-at-spec =
@@ -12,12 +21,12 @@ path-at-spec =
     (tie.spec
     (λ c. search needs)
     (λ c κs. search needs)
-    (λ c κs. search needs)
     (λ c. search needs)
     (λ c κs. search needs)
     (λ c. search needs)
     (λ c κs. search needs)
     (λ c. search needs)
+    (λ c κs. search needs)
     (λ c κs. search needs)
     (λ c κs. search needs)
     returns)
