@@ -10,7 +10,8 @@ use Rattle.ground.proofs.Each.{and-left, and-right, and-both, by-or}
 use Rattle.ground.proofs.Order.{by-order}
 use Rattle.layout.specs.Layout.{firstSurrogate, pathSpline, selfLoop, labelPresent}
 use Rattle.layout.specs.Tables.{flag}
-use Rattle.records.specs.Records.{loopGood, pathNumber, weightNumber, edgeFlagsGood, pathGood, labelStartGood, labelCountGood, scalarGood, widthGood}
+use Rattle.edge_rules.specs.Edge.{pathNumber, weightNumber, edgeFlagsGood, pathGood, labelStartGood, labelCountGood}
+use Rattle.records.specs.Records.{loopGood, scalarGood, widthGood}
 use Rattle.records.specs.Good.{LoopGood, EdgeFlagsGood, PathGood, LabelGood, Scalar, Width}
 
 -- A choice by a test holds exactly when the side that the test chooses holds.

@@ -14,7 +14,8 @@ use Rattle.image.specs.declared.ElementKind.{ElementKind}
 use Rattle.image.specs.declared.ElementKind.the-variants as thing
 use Rattle.image.specs.Records.{thingTable}
 use Rattle.header.proofs.Kept.{Kept}
-use Rattle.records.specs.Records.{nodeRules, edgeRules, subgraphRules, placedLabelRules, elementRules, pointRules, glyphRules, rangeRules, recordRules, thingCount}
+use Rattle.edge_rules.specs.Edge.{edgeRules}
+use Rattle.records.specs.Records.{nodeRules, subgraphRules, placedLabelRules, elementRules, pointRules, glyphRules, rangeRules, recordRules, thingCount}
 use Rattle.records.specs.Good.{RecordGood}
 use Rattle.records.proofs.Kept.{loop-kept, kept-loop, flags-kept, kept-flags, path-kept, kept-a, kept-b, kept-c, label-kept, kept-start, kept-count, scalar-kept, kept-scalar, width-kept, kept-width}
 

@@ -16,7 +16,8 @@ use Rattle.layout.specs.Layout.{pointX, pointY, glyphValue, rangeFirst, rangeLa
 use Rattle.layout.specs.Tables.{flag}
 use Rattle.image.specs.declared.ElementKind.the-variants as thing
 use Rattle.image.specs.Records.{elementKindOf, elementKindNumber}
-use Rattle.records.specs.Records.{pathNumber, weightNumber, thingCount}
+use Rattle.edge_rules.specs.Edge.{pathNumber, weightNumber}
+use Rattle.records.specs.Records.{thingCount}
 
 -- "loop x, loop y (both 0 without the bit)"
 pub record LoopGood (flags n : ℕ) : Type 0 where

@@ -2,7 +2,7 @@
 use borrow.Author.Needs.{needs}
 use Prim.Native.Nat.{_-_}
 use Rattle.fields.specs.Left.{FromRecord}
-use Rattle.records.specs.Records.{edgeRules}
+use Rattle.edge_rules.specs.Edge.{edgeRules}
 use Rattle.fields.proofs.Laws.{through}
 use Rattle.fields.proofs.bad_edges.Statement.{statement}
 use Rattle.fields.proofs.bad_edges.Tie as tie

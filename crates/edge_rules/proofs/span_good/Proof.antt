@@ -1,7 +1,7 @@
 -- `span_good` tells whether a span lies in its table.
 use borrow.Author.Needs.{needs}
-use Rattle.records.proofs.span_good.Statement.{statement}
-use Rattle.records.proofs.span_good.Tie as tie
+use Rattle.edge_rules.proofs.span_good.Statement.{statement}
+use Rattle.edge_rules.proofs.span_good.Tie as tie
 
 returns : tie.Need-returns
 returns c = rw (c .before .number .ensures .0, c .number2 .ensures .0)

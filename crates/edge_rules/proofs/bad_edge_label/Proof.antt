@@ -1,8 +1,8 @@
 -- `bad_edge_label` finds the first word of an edge's label that breaks its rule.
 use borrow.Author.Needs.{needs}
 use Rattle.header.specs.InTurn.{orWords}
-use Rattle.records.proofs.bad_edge_label.Statement.{statement}
-use Rattle.records.proofs.bad_edge_label.Tie as tie
+use Rattle.edge_rules.proofs.bad_edge_label.Statement.{statement}
+use Rattle.edge_rules.proofs.bad_edge_label.Tie as tie
 
 returns : tie.Need-returns
 unfolding orWords

@@ -1,7 +1,7 @@
 -- `bad_edge_flags` finds an edge's flags that break their rule.
 use borrow.Author.Needs.{needs}
-use Rattle.records.proofs.bad_edge_flags.Statement.{statement}
-use Rattle.records.proofs.bad_edge_flags.Tie as tie
+use Rattle.edge_rules.proofs.bad_edge_flags.Statement.{statement}
+use Rattle.edge_rules.proofs.bad_edge_flags.Tie as tie
 
 returns : tie.Need-returns
 returns c = rw (c .or-unless .ensures, c .before .edge-flags-good .ensures, c .before .before .word .ensures)

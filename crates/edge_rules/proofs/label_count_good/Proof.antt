@@ -1,7 +1,7 @@
 -- `label_count_good` tells whether the count of an edge's label keeps its rule.
 use borrow.Author.Needs.{needs}
-use Rattle.records.proofs.label_count_good.Statement.{statement}
-use Rattle.records.proofs.label_count_good.Tie as tie
+use Rattle.edge_rules.proofs.label_count_good.Statement.{statement}
+use Rattle.edge_rules.proofs.label_count_good.Tie as tie
 
 returns : tie.Need-returns
 returns c = rw (← c .before .flag .ensures, c .if1 .taken)

@@ -1,7 +1,7 @@
 -- `path_at` tells of an edge's a, b and c whether each keeps the rule of its path.
 use borrow.Author.Needs.{needs}
-use Rattle.records.proofs.path_at.Statement.{statement}
-use Rattle.records.proofs.path_at.Tie as tie
+use Rattle.edge_rules.proofs.path_at.Statement.{statement}
+use Rattle.edge_rules.proofs.path_at.Tie as tie
 
 returns : tie.Need-returns
 returns c =

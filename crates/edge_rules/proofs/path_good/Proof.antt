@@ -1,9 +1,9 @@
 -- `path_good` tells of a, b and c whether each keeps the rule of the path.
 use borrow.Author.Needs.{needs}
 use borrow.Author.Tests.{ne-eqb}
-use Rattle.records.specs.Records.{pathGood}
-use Rattle.records.proofs.path_good.Statement.{statement}
-use Rattle.records.proofs.path_good.Tie as tie
+use Rattle.edge_rules.specs.Edge.{pathGood}
+use Rattle.edge_rules.proofs.path_good.Statement.{statement}
+use Rattle.edge_rules.proofs.path_good.Tie as tie
 
 returns : tie.Need-returns
 unfolding pathGood

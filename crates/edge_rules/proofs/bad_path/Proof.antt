@@ -1,8 +1,8 @@
 -- `bad_path` finds the first of an edge's a, b and c that breaks the rule of its path.
 use borrow.Author.Needs.{needs}
 use Rattle.header.specs.InTurn.{orWords}
-use Rattle.records.proofs.bad_path.Statement.{statement}
-use Rattle.records.proofs.bad_path.Tie as tie
+use Rattle.edge_rules.proofs.bad_path.Statement.{statement}
+use Rattle.edge_rules.proofs.bad_path.Tie as tie
 
 returns : tie.Need-returns
 unfolding orWords

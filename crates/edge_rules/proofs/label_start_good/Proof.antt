@@ -1,7 +1,7 @@
 -- `label_start_good` tells whether the start of an edge's label keeps its rule.
 use borrow.Author.Needs.{needs}
-use Rattle.records.proofs.label_start_good.Statement.{statement}
-use Rattle.records.proofs.label_start_good.Tie as tie
+use Rattle.edge_rules.proofs.label_start_good.Statement.{statement}
+use Rattle.edge_rules.proofs.label_start_good.Tie as tie
 
 returns : tie.Need-returns
 returns c = rw (← c .before .before .flag .ensures, c .before .if1 .taken) (c .span-good .ensures)

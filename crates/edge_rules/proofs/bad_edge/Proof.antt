@@ -1,10 +1,10 @@
 -- `bad_edge` finds the first word of an edge that breaks its rule.
 use borrow.Author.Needs.{needs}
 use Rattle.header.specs.InTurn.{orWords}
-use Rattle.records.specs.Records.{edgeRules}
+use Rattle.edge_rules.specs.Edge.{edgeRules}
 use Rattle.header.proofs.InTurn.{in-turn}
-use Rattle.records.proofs.bad_edge.Statement.{statement}
-use Rattle.records.proofs.bad_edge.Tie as tie
+use Rattle.edge_rules.proofs.bad_edge.Statement.{statement}
+use Rattle.edge_rules.proofs.bad_edge.Tie as tie
 
 returns : tie.Need-returns
 unfolding edgeRules orWords
