@@ -13,6 +13,7 @@ use Rattle.layout.specs.declared.Table.{Table}
 use Rattle.layout.specs.Layout.{avoidNodeRows, showDummies, nodeKindStep, nodeKinds, selfLoop, pathStep, paths, flowX, reversed, startMarker, endMarker}
 use Rattle.layout.specs.Layout.{weightStep, weights, labelPresent, borderStep, borders, insideBottom, placeable, rowHasNode}
 use Rattle.layout.specs.Tables.{tableEnd, recordAt, header, bits, flag, field}
+use Rattle.layout.proofs.Laws.{record-inside}
 use Rattle.cell.specs.declared.Weight.{Weight}
 use Rattle.cell.specs.OneCell.{weightOf}
 use Rattle.image.specs.declared.LabelPolicy.{LabelPolicy}
@@ -36,7 +37,7 @@ use Rattle.image.specs.declared.Element.{Element}
 use Rattle.image.specs.Records.{policyOf, headerOf, nodeKindOf, selfLoopOf, nodeAt, pathOf, axisOf, edgeLabelOf, edgeAt}
 use Rattle.image.specs.Records.{positionOf, subgraphAt, placedLabelAt, elementKindOf, elementAt}
 use Rattle.image.specs.Spans.{spanWords, pathSpan}
-use Rattle.image.specs.Parts.{fourAt, styleOf}
+use Rattle.image.specs.Parts.{fourAt, styleOf, Bounded}
 use Rattle.image.proofs.Path.{the-type}
 
 -- what lies between the beginnings of two records
@@ -44,38 +45,39 @@ pub records-between : (t : Table) (k n : ℕ) → recordAt t (k + n) - recordAt 
 records-between t k n = omega (arith, add-mul k n (t .size))
 
 -- the words of a span that is inside its table, and its table inside the image
-pub span-inside :
-    (image : List ℕ) (t : Table) (span : Span) (k n a e : ℕ) →
-    k ≡ span .start →
-    n ≡ span .count →
-    a ≡ recordAt t k →
-    e ≡ recordAt t (k + n) →
+span-inside :
+    (image : List ℕ) (t : Table) (k n : ℕ) →
     k + n ≤ t .count →
     tableEnd t ≤ length image →
-    take (e - a) (drop a image) ≡ spanWords image t span
+    take (recordAt t (k + n) - recordAt t k) (drop (recordAt t k) image) ≡ spanWords image t (record { start = k; count = n })
 unfolding spanWords
-span-inside image t span k n a e hk hn ha he p q =
-    let inside : span .start + span .count ≤ t .count = omega arith in
-    let words : e - a ≡ span .count * t .size =
-    rw (ha, he, hk, hn) (records-between t (span .start) (span .count)) in
-    let first : a ≡ recordAt t (span .start) = rw (← hk) ha in
-    simp (le-leb _ _ inside, le-leb _ _ q) (rw (words, first))
+span-inside image t k n p q = simp (le-leb _ _ p, le-leb _ _ q) (rw (records-between t k n))
 
--- a span that leaves its table has no words
-pub span-outside :
-    (image : List ℕ) (t : Table) (span : Span) →
-    t .count < span .start + span .count →
-    [] ≡ spanWords image t span
-unfolding spanWords
-span-outside image t span p = simp (lt-leb _ _ p)
+module _ (t : Table) (span : Span) (size : ℕ) where
+  pub bounds-inside :
+      (k n a e : ℕ) →
+      k ≡ span .start →
+      n ≡ span .count →
+      a ≡ recordAt t k →
+      e ≡ recordAt t (k + n) →
+      k + n ≤ t .count →
+      tableEnd t ≤ size →
+      Bounded t span size (record { first = a; end = e })
+  bounds-inside k n a e hk hn ha he p q = record {
+    ordered = omega (arith, add-mul k n (t .size));
+    inside = omega (arith, record-inside t (k + n) p);
+    words = λ image s. rw (ha, he, hk, hn) (span-inside image t (span .start) (span .count) (omega arith) (omega arith));
+  }
 
--- a span of a table that leaves the image has no words
-pub table-outside :
-    (image : List ℕ) (t : Table) (span : Span) →
-    length image < tableEnd t →
-    [] ≡ spanWords image t span
-unfolding spanWords
-table-outside image t span p = simp (lt-leb _ _ p, and-false)
+  -- a span that leaves its table has no words
+  pub span-outside : t .count < span .start + span .count → Bounded t span size (record { first = 0; end = 0 })
+  unfolding spanWords
+  span-outside p = record { ordered = omega arith; inside = omega arith; words = λ image s. simp (lt-leb _ _ p) }
+
+  -- nor has one whose table leaves the image
+  pub table-outside : size < tableEnd t → Bounded t span size (record { first = 0; end = 0 })
+  unfolding spanWords
+  table-outside p = record { ordered = omega arith; inside = omega arith; words = λ image s. rw s (simp (lt-leb _ _ p, and-false)) }
 
 abbrev pointless : List ℕ
 pointless = 0 ∷ 1 ∷ 2 ∷ 5 ∷ []

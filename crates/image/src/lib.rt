@@ -10,7 +10,7 @@ ghost use Rattle.layout.specs.Layout.{avoidNodeRows, nodeKindStep, nodeKinds, s
 ghost use Rattle.image.specs.Records.{policyOf, headerOf, nodeKindOf, selfLoopOf, nodeAt, pathOf, axisOf, edgeLabelOf, edgeAt};
 ghost use Rattle.image.specs.Records.{positionOf, subgraphAt, placedLabelAt, elementKindOf, elementKindNumber, elementAt};
 ghost use Rattle.image.specs.Spans.{spanWords, pathSpan, pointsOf, tableWords, pointCount, pointAt};
-ghost use Rattle.image.specs.Parts.{fourAt, styleOf};
+ghost use Rattle.image.specs.Parts.{fourAt, styleOf, Bounded};
 use cell::Weight;
 use layout::Table;
 use layout::bits;
@@ -96,22 +96,40 @@ pub struct Span {
     pub count: u32,
 }
 
-// The words of a span's records, or the empty part where the span leaves its table or the table the image.
-pub fn span_words(image: &[u32], table: Table, span: Span) -> &[u32]
+// Where a part of the image begins and ends.
+struct Bounds {
+    first: usize,
+    end: usize,
+}
+
+// The bounds of a span's records in an image of so many words, or of the empty part where the span leaves its table or the table the image.
+fn span_bounds(table: Table, span: Span, length: usize) -> Bounds
     requires { ⌜ Small table ⌝ }
-    ensures { λ r. ⌜ now r ≡ spanWords (now (image .entry)) table span ⌝ }
+    ensures { λ r. ⌜ Bounded table span length r ⌝ }
 {
     let start = ground::number(span.start);
     let count = ground::number(span.count);
     let held = table.count;
     if start + count <= held {
-        if layout::table_end(table) <= image.len() {
-            let a = layout::record_at(table, start);
-            let e = layout::record_at(table, start + count);
-            return &image[a..e];
+        if layout::table_end(table) <= length {
+            return Bounds {
+                first: layout::record_at(table, start),
+                end: layout::record_at(table, start + count),
+            };
         }
     }
-    &image[0..0]
+    Bounds { first: 0, end: 0 }
+}
+
+// The words of a span's records, or the empty part where the span leaves its table or the table the image.
+pub fn span_words(image: &[u32], table: Table, span: Span) -> &[u32]
+    requires { ⌜ Small table ⌝ }
+    ensures { λ r. ⌜ now r ≡ spanWords (now (image .entry)) table span ⌝ }
+{
+    let bounds = span_bounds(table, span, image.len());
+    let first = bounds.first;
+    let end = bounds.end;
+    &image[first..end]
 }
 
 // How a node looks.
