@@ -3,7 +3,7 @@ use Prim.Native.Nat.{ℕ, _+_, _*_, _-_, _≤_, _<_}
 use native.Mathlib.Nat.{add-mul}
 use native.Mathlib.Omega.{arith}
 use mathlib.Core.Path.{_≡_, refl}
-use mathlib.Core.Bool.{Bool, and-false}
+use mathlib.Core.Bool.{Bool, true, false, and-false}
 use mathlib.Core.List.{List, [], _∷_}
 use lib.ListN.{length, take, drop}
 use borrow.Author.Tests.{le-leb, lt-leb}
@@ -28,6 +28,7 @@ use Rattle.image.specs.declared.Path.the-variants.{Direct, Corner, SideC
 use Rattle.image.specs.declared.FlowAxis.{FlowAxis}
 use Rattle.image.specs.declared.Style.{Style}
 use Rattle.image.specs.declared.EdgeLabel.{EdgeLabel}
+use Rattle.image.specs.declared.EdgeLabel.the-variants as label
 use Rattle.image.specs.declared.Edge.{Edge}
 use Rattle.image.specs.declared.LabelPosition.{LabelPosition}
 use Rattle.image.specs.declared.Subgraph.{Subgraph}
@@ -90,6 +91,16 @@ no-points (SideChannel channel start end) k = refl
 no-points (MultiSegment span offset) k = absurd (miss pointless 3 tt k)
 no-points (Orthogonal span) k = absurd (miss pointless 4 tt k)
 no-points Spline k = refl
+
+-- the label of an edge, by the flag that says whether it has one
+module _ (flags : ℕ) (span : Span) (test : Bool) (e : test ≡ flag flags labelPresent) where
+  pub label-present : test ≡ true → label.Present span ≡ edgeLabelOf (flag flags labelPresent) span
+  unfolding edgeLabelOf
+  label-present h = rw (← e, h)
+
+  pub label-absent : test ≡ false → label.None ≡ edgeLabelOf (flag flags labelPresent) span
+  unfolding edgeLabelOf
+  label-absent h = rw (← e, h)
 
 -- the header and each record, of the words and the parts by which it is read
 
