@@ -2,15 +2,18 @@
 use native.Mathlib.Omega.{arith}
 use Prim.Native.Nat.{ℕ, _+_, _-_, _≤_, _<_, min, max}
 use mathlib.Core.Path.{_≡_, refl, sym, _∙_}
-use mathlib.Core.Bool.{Bool, true, false, cond}
+use mathlib.Core.Bool.{Bool, true, false, not, cond}
 use mathlib.Core.List.{List, [], _∷_, _++_}
-use borrow.Author.Tests.{lt-ltb, le-ltb}
+use lib.Dec.{eqb}
+use borrow.Author.Tests.{lt-ltb, le-ltb, eq-eqb, ne-eqb}
 use types.Run.{OneOf, miss}
 use denote.Enum.Declared.{tagOf}
+use Rattle.cell.specs.declared.Arms.{Arms}
+use Rattle.cell.specs.declared.Dir.{Dir}
 use Rattle.rows.specs.declared.Rows.{Rows}
 use Rattle.rows.specs.declared.Rows.the-variants as rows
 use Rattle.rows.specs.declared.Window.{Window}
-use Rattle.rows.specs.Window.{joinRows}
+use Rattle.rows.specs.Window.{inWindow, joinRows}
 use Rattle.rows.specs.Computed.{windowRows}
 use Rattle.rows.proofs.Windows.{clipped-none}
 use Rattle.rows.proofs.Theorems.{join-assoc, join-none}
@@ -19,7 +22,7 @@ use Rattle.flow.specs.declared.Piece.{Piece}
 use Rattle.flow.specs.declared.Piece.the-variants.{Nothing, Vertical, Horizontal, Run, Stroke, Mark}
 use Rattle.flow.specs.declared.Reach.{Reach}
 use Rattle.flow.specs.Pieces.{pieceRunsIn}
-use Rattle.flow.specs.Reach.{verticalRows, horizontalRows, pieceRows, noReach, pieceReach, joinReach, withRows, reachOf}
+use Rattle.flow.specs.Reach.{rowIf, verticalRows, horizontalRows, pieceRows, noReach, pieceReach, joinReach, withRows, reachOf}
 use Rattle.flow.proofs.Piece.{the-type}
 
 -- The rows of a line by how far its ends lie apart: none where no cell lies between them, else its own.
@@ -28,6 +31,15 @@ module _ (window : Window) (from to : ℕ) where
   pub vertical-short : max from to - min from to < 2 → rows.None ≡ verticalRows window from to
   unfolding verticalRows
   vertical-short h = clipped-none window (min from to + 1) (max from to - 1) (omega arith)
+
+  pub vertical-long :
+      (low high : ℕ) (r : Rows) →
+      r ≡ windowRows window (low + 1) (high - 1) →
+      low ≡ min from to →
+      high ≡ max from to →
+      r ≡ verticalRows window from to
+  unfolding verticalRows
+  vertical-long low high r e p q = rw (← p, ← q) e
 
   pub horizontal-short : (row : ℕ) → max from to - min from to < 2 → rows.None ≡ horizontalRows window row from to
   unfolding horizontalRows
@@ -38,7 +50,16 @@ module _ (window : Window) (from to : ℕ) where
   unfolding horizontalRows
   horizontal-long row r h e = rw (lt-ltb (min from to + 1) (max from to) (omega arith)) e
 
--- What is no run makes none.
+-- A run counts where its row is the window's, and what is no run makes none.
+
+module _ (window : Window) (p : Piece) (row first last : ℕ) (has : Bool) (is : p ≡ Run row first last) (h : has ≡ inWindow window row) where
+  pub run-counts : has ≡ true → 1 ≡ pieceRunsIn window p
+  unfolding pieceRunsIn
+  run-counts t = rw (is, ← h, t)
+
+  pub run-elsewhere : has ≡ false → 0 ≡ pieceRunsIn window p
+  unfolding pieceRunsIn
+  run-elsewhere t = rw (is, ← h, t)
 
 abbrev no-runs : List ℕ
 no-runs = 0 ∷ 1 ∷ 2 ∷ 4 ∷ 5 ∷ []
@@ -98,7 +119,7 @@ pub with-piece-rows :
 unfolding pieceReach joinReach withRows
 with-piece-rows window reach p r h n = let m : reach .runs + 0 ≡ reach .runs = omega arith in rw (h, n, m)
 
--- So does a line, whatever its arrows,
+-- So do a line, whatever its arrows,
 
 pub with-vertical : (window : Window) (reach : Reach) (l : Line) → joinReach reach (pieceReach window (Vertical l)) ≡ withRows reach (verticalRows window (l .from) (l .to))
 unfolding pieceRows pieceRunsIn
@@ -110,7 +131,8 @@ pub with-horizontal :
 unfolding pieceRows pieceRunsIn
 with-horizontal window reach l = with-piece-rows window reach (Horizontal l) _ refl refl
 
--- and a piece that is there only where a test holds.
+-- a piece that is there only where a test holds, and one that is there only where it does not;
+
 pub with-piece-if :
     (window : Window) (reach : Reach) (test : Bool) (p : Piece) (r : Rows) →
     pieceRows window p ≡ r →
@@ -119,6 +141,50 @@ pub with-piece-if :
 unfolding pieceRows pieceRunsIn
 with-piece-if window reach true p r h n = with-piece-rows window reach p r h n
 with-piece-if window reach false p r h n = with-piece-rows window reach Nothing rows.None refl refl
+
+pub with-piece-unless :
+    (window : Window) (reach : Reach) (test : Bool) (p : Piece) (r : Rows) →
+    pieceRows window p ≡ r →
+    pieceRunsIn window p ≡ 0 →
+    joinReach reach (pieceReach window (cond test Nothing p)) ≡ withRows reach (cond (not test) r rows.None)
+unfolding pieceRows pieceRunsIn
+with-piece-unless window reach true p r h n = with-piece-rows window reach Nothing rows.None refl refl
+with-piece-unless window reach false p r h n = with-piece-rows window reach p r h n
+
+-- and the corners of a crossing, of which the first may be an arrow: none where its ends are equal.
+
+module _ (window : Window) (reach : Reach) (same : Bool) (x y : ℕ) (arms : Arms) where
+  pub with-first-corner :
+      (arrow : Bool) (dir : Dir) →
+      joinReach reach (pieceReach window (cond same Nothing (cond arrow (Mark x y dir) (Stroke x y arms))))
+      ≡ withRows reach (rowIf window (not same) y)
+  unfolding pieceRows pieceRunsIn
+  with-first-corner true dir = with-piece-unless window reach same (Mark x y dir) _ refl refl
+  with-first-corner false dir = with-piece-unless window reach same (Stroke x y arms) _ refl refl
+
+  pub with-last-corner :
+      joinReach reach (pieceReach window (cond same Nothing (Stroke x y arms))) ≡ withRows reach (rowIf window (not same) y)
+  unfolding pieceRows pieceRunsIn
+  with-last-corner = with-piece-unless window reach same (Stroke x y arms) _ refl refl
+
+-- Rows that are there only where a test holds: with them, and without.
+
+module _ (reach : Reach) (test : Bool) (more : Rows) where
+  pub with-rows-if : (r : Reach) → r ≡ withRows reach more → test ≡ true → r ≡ withRows reach (cond test more rows.None)
+  with-rows-if r p t = rw t p
+
+  pub with-rows-unless : test ≡ false → reach ≡ withRows reach (cond test more rows.None)
+  unfolding withRows
+  with-rows-unless t = rw (t, join-none (reach .rows))
+
+-- The pieces of a leg, which are chosen by whether two coordinates of it are equal.
+
+module _ (window : Window) (reach r : Reach) (a b : ℕ) (straight bent : List Piece) where
+  pub leg-straight : a ≡ b → r ≡ joinReach reach (reachOf window straight) → r ≡ joinReach reach (reachOf window (cond (eqb a b) straight bent))
+  leg-straight h p = rw (eq-eqb a b h) p
+
+  pub leg-bent : (a ≡ b → ⊥) → r ≡ joinReach reach (reachOf window bent) → r ≡ joinReach reach (reachOf window (cond (eqb a b) straight bent))
+  leg-bent h p = rw (ne-eqb a b h) p
 
 pub reach-append : (window : Window) (k l : List Piece) → reachOf window (k ++ l) ≡ joinReach (reachOf window k) (reachOf window l)
 unfolding reachOf

@@ -1,7 +1,7 @@
 -- The rows and runs that the code finds are those of the definitions: the first and the last row that a piece, or a list of pieces, touches, and its runs.
 use Prim.Native.Nat.{ℕ, _+_, min, max}
 use mathlib.Core.Path.{_≡_, refl, sym, _∙_}
-use mathlib.Core.Bool.{Bool, true, false, cond, _&&_, _||_}
+use mathlib.Core.Bool.{Bool, true, false, cond, _&&_, _||_, or-false}
 use mathlib.Core.List.{List, [], _∷_}
 use lib.Dec.{ltb, eqb}
 use Rattle.ground.specs.Each.{some}
@@ -23,11 +23,6 @@ use Rattle.flow.specs.declared.Piece.{Piece}
 use Rattle.flow.specs.declared.Piece.the-variants.{Nothing, Vertical, Horizontal, Run, Stroke, Mark}
 use Rattle.flow.specs.Pieces.{arrowOr, lineInk, pieceSpots, pieceRunOn, pieceTouches, runsIn}
 use Rattle.flow.specs.Reach.{hasInside, verticalRows, horizontalRows, pieceRows, pieceReach, joinReach, reachOf}
-
--- a test that never holds adds nothing
-or-false : (b : Bool) → b || false ≡ b
-or-false true = refl
-or-false false = refl
 
 -- every cell of a line is inked
 
