@@ -1,23 +1,12 @@
-// The rows of a window that a piece touches, and the runs that it makes there.
+// What is reached in a window of rows with a row or a line more, and the runs that a piece makes there.
 ghost use mathlib.Core.Path.{_≡_};
-ghost use Prim.Native.Nat.{_+_, _≤_, _<_};
+ghost use Prim.Native.Nat.{_≤_};
 ghost use Rattle.flow.specs.Pieces.{pieceRunsIn};
-ghost use Rattle.flow.specs.Reach.{rowIf, verticalRows, horizontalRows, pieceRows, noReach, pieceReach, joinReach, withRows};
+ghost use Rattle.flow.specs.Reach.{rowIf, verticalRows, horizontalRows, noReach, withRows};
 use flow::Piece;
 use flow::Reach;
 use rows::Rows;
 use rows::Window;
-
-// A row, where it is touched.
-pub fn row_if(window: Window, touched: bool, row: usize) -> Rows
-    ensures { λ r. ⌜ r ≡ rowIf window touched row ⌝ }
-{
-    if touched {
-        window.clip(row, row)
-    } else {
-        Rows::None
-    }
-}
 
 // The rows strictly between two rows.
 pub fn vertical_rows(window: Window, from: usize, to: usize) -> Rows
@@ -43,19 +32,7 @@ pub fn horizontal_rows(window: Window, row: usize, from: usize, to: usize) -> Ro
     window.clip(row, row)
 }
 
-pub fn piece_rows(window: Window, piece: Piece) -> Rows
-    ensures { λ r. ⌜ r ≡ pieceRows window piece ⌝ }
-{
-    match piece {
-        Piece::Nothing => Rows::None,
-        Piece::Vertical(line) => vertical_rows(window, line.from, line.to),
-        Piece::Horizontal(line) => horizontal_rows(window, line.lane, line.from, line.to),
-        Piece::Run { row, first, last } => window.clip(row, row),
-        Piece::Stroke { x, y, arms } => window.clip(y, y),
-        Piece::Mark { x, y, dir } => window.clip(y, y),
-    }
-}
-
+// How many runs a piece makes on rows of the window: one, or none.
 pub fn piece_runs(window: Window, piece: Piece) -> usize
     ensures { λ r. ⌜ (r ≡ pieceRunsIn window piece) × (r ≤ 1) ⌝ }
 {
@@ -74,18 +51,6 @@ pub fn no_reach() -> Reach
     }
 }
 
-// What is reached with one more piece.
-pub fn with_piece(reach: Reach, window: Window, piece: Piece) -> Reach
-    requires { ⌜ reach .runs < 0x4000000000000000 ⌝ }
-    ensures { λ r. ⌜ (r ≡ joinReach reach (pieceReach window piece)) × (r .runs ≤ reach .runs + 1) ⌝ }
-{
-    let rows = reach.rows;
-    Reach {
-        rows: rows.join(piece_rows(window, piece)),
-        runs: reach.runs + piece_runs(window, piece),
-    }
-}
-
 // What is reached with rows more.
 pub fn with_rows(reach: Reach, more: Rows) -> Reach
     ensures { λ r. ⌜ (r ≡ withRows reach more) × (r .runs ≡ reach .runs) ⌝ }
@@ -95,4 +60,29 @@ pub fn with_rows(reach: Reach, more: Rows) -> Reach
         rows: rows.join(more),
         runs: reach.runs,
     }
+}
+
+// With a row more, where it is touched.
+pub fn with_row_if(reach: Reach, window: Window, touched: bool, row: usize) -> Reach
+    ensures { λ r. ⌜ (r ≡ withRows reach (rowIf window touched row)) × (r .runs ≡ reach .runs) ⌝ }
+{
+    if touched {
+        with_rows(reach, window.clip(row, row))
+    } else {
+        reach
+    }
+}
+
+// With the rows more that lie strictly between two rows.
+pub fn with_vertical(reach: Reach, window: Window, from: usize, to: usize) -> Reach
+    ensures { λ r. ⌜ (r ≡ withRows reach (verticalRows window from to)) × (r .runs ≡ reach .runs) ⌝ }
+{
+    with_rows(reach, vertical_rows(window, from, to))
+}
+
+// With a row more, if a column lies strictly between two.
+pub fn with_horizontal(reach: Reach, window: Window, row: usize, from: usize, to: usize) -> Reach
+    ensures { λ r. ⌜ (r ≡ withRows reach (horizontalRows window row from to)) × (r .runs ≡ reach .runs) ⌝ }
+{
+    with_rows(reach, horizontal_rows(window, row, from, to))
 }

@@ -1,8 +1,7 @@
 -- `piece_runs` counts a run on a row of the window.
 use borrow.Author.Needs.{needs}
 use native.Mathlib.Omega.{arith}
-use Rattle.flow.specs.Pieces.{pieceRunsIn}
-use Rattle.flow.proofs.Reached.{no-run}
+use Rattle.flow.proofs.Reached.{run-counts, run-elsewhere, no-run}
 use Rattle.touch.proofs.piece_runs.Statement.{statement}
 use Rattle.touch.proofs.piece_runs.Tie as tie
 
@@ -10,12 +9,10 @@ returns : tie.Need-returns
 returns c = (no-run _ _ (c .match .keys2), omega arith)
 
 returns-2 : tie.Need-returns-2
-unfolding pieceRunsIn
-returns-2 c = (rw (c .before .before .before .piece .given .1, ← c .before .has .ensures, c .if1 .taken), omega arith)
+returns-2 c = (search (run-counts, needs), omega arith)
 
 returns-3 : tie.Need-returns-3
-unfolding pieceRunsIn
-returns-3 c = (rw (c .before .before .before .piece .given .1, ← c .before .has .ensures, c .if1 .left), omega arith)
+returns-3 c = (search (run-elsewhere, needs), omega arith)
 
 pub piece-runs-spec : {M : Type 1} → statement M
 piece-runs-spec =

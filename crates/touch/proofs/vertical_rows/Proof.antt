@@ -1,7 +1,6 @@
 -- `vertical_rows` gives the rows strictly between two.
 use borrow.Author.Needs.{needs}
-use Rattle.flow.specs.Reach.{verticalRows}
-use Rattle.flow.proofs.Reached.{vertical-short}
+use Rattle.flow.proofs.Reached.{vertical-short, vertical-long}
 use Rattle.touch.proofs.vertical_rows.Statement.{statement}
 use Rattle.touch.proofs.vertical_rows.Tie as tie
 
@@ -9,8 +8,7 @@ returns : tie.Need-returns
 returns c = vertical-short _ _ _ (search needs)
 
 returns-2 : tie.Need-returns-2
-unfolding verticalRows
-returns-2 c = cc
+returns-2 c = search (vertical-long, needs)
 
 pub vertical-rows-spec : {M : Type 1} → statement M
 vertical-rows-spec =

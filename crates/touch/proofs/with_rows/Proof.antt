@@ -7,7 +7,7 @@ use Rattle.touch.proofs.with_rows.Tie as tie
 
 returns : tie.Need-returns
 unfolding withRows
-returns c = (cc, refl)
+returns c = (rw (c .join .ensures), refl)
 
 pub with-rows-spec : {M : Type 1} → statement M
 with-rows-spec =
