@@ -1,8 +1,9 @@
 // "Y flow": the pieces of an edge that flows down or up, one maker for each, and what they reach in a window of rows.
 ghost use mathlib.Core.Path.{_≡_};
 ghost use Prim.Native.Nat.{_<_};
-ghost use Rattle.y_flow.specs.YFlow.{signY, withY, againstY, directY, crossRunY, crossFirstY, crossLastY, nearY, cornerArrowY};
+ghost use Rattle.y_flow.specs.YFlow.{signY, withY, againstY, directY, crossRunY, crossFirstY, crossLastY, cornerArrowY};
 ghost use Rattle.y_flow.specs.YFlow.{trunkY, ownStartY, tailY, channelLineY, straightLineY, cornerRow};
+ghost use Rattle.flow.specs.Flow.{startHead, endHead};
 ghost use Rattle.flow.specs.Bounds.{SmallBend, SmallLeg, SmallCoordinate};
 use cell::Arms;
 use cell::Dir;
@@ -21,18 +22,31 @@ pub fn sign(e: Edge) -> bool
     e.from_y <= e.to_y
 }
 
-// The direction s.
-fn with_flow(s: bool) -> Dir
-    ensures { λ r. ⌜ r ≡ withY s ⌝ }
-{
-    if s { Dir::Down } else { Dir::Up }
-}
-
 // The direction −s.
 fn against_flow(s: bool) -> Dir
     ensures { λ r. ⌜ r ≡ againstY s ⌝ }
 {
     if s { Dir::Up } else { Dir::Down }
+}
+
+// "a start arrow points −s at from y + s"
+fn start_head(wanted: bool, s: bool, from: usize) -> Head
+    requires { ⌜ from < 0x800000000000 ⌝ }
+    ensures { λ r. ⌜ r ≡ startHead wanted s from (againstY s) ⌝ }
+{
+    flow::start_head(wanted, s, from, against_flow(s))
+}
+
+// "An end arrow points s at to y − s"
+fn end_head(wanted: bool, s: bool, to: usize) -> Head
+    requires { ⌜ to < 0x800000000000 ⌝ }
+    ensures { λ r. ⌜ r ≡ endHead wanted s to (withY s) ⌝ }
+{
+    if s {
+        flow::end_head(wanted, true, to, Dir::Down)
+    } else {
+        flow::end_head(wanted, false, to, Dir::Up)
+    }
 }
 
 // "Direct, Spline: vertical at from x, between; end arrow beats start arrow."
@@ -43,8 +57,8 @@ pub fn direct(e: Edge) -> Piece
     let x = ground::number(e.from_x);
     let from = ground::number(e.from_y);
     let to = ground::number(e.to_y);
-    let end = flow::end_head(flow::target_marker(e), s, to, with_flow(s));
-    let start = flow::start_head(flow::source_marker(e), s, from, against_flow(s));
+    let end = end_head(flow::target_marker(e), s, to);
+    let start = start_head(flow::source_marker(e), s, from);
     Piece::Vertical(flow::line_of(x, from, to, end, start))
 }
 
@@ -101,25 +115,19 @@ pub fn cross_last(w: Weight, s: bool, row: usize, x1: usize, x2: usize) -> Piece
     }
 }
 
-// "(bend − from y)·s ≤ 1"
-fn near(s: bool, from: usize, bend: usize) -> bool
-    requires { ⌜ (from < 0x1000000000000) × (bend < 0x1000000000000) ⌝ }
-    ensures { λ r. ⌜ r ≡ nearY s from bend ⌝ }
-{
-    if s {
-        bend <= from + 1
-    } else {
-        from <= bend + 1
-    }
-}
-
-// Whether an arrow replaces the first corner.
+// Whether an arrow replaces the first corner: "(bend − from y)·s ≤ 1".
 pub fn corner_arrow(s: bool, v: Bend) -> bool
     requires { ⌜ SmallBend v ⌝ }
     ensures { λ r. ⌜ r ≡ cornerArrowY s v ⌝ }
 {
+    let from = v.y1;
+    let bend = v.bend;
     if v.start_arrow {
-        near(s, v.y1, v.bend)
+        if s {
+            bend <= from + 1
+        } else {
+            from <= bend + 1
+        }
     } else {
         false
     }
@@ -131,7 +139,7 @@ pub fn trunk(s: bool, v: Bend) -> Piece
     ensures { λ r. ⌜ r ≡ trunkY s v ⌝ }
 {
     if v.has_trunk {
-        let head = flow::start_head(v.start_arrow, s, v.y1, against_flow(s));
+        let head = start_head(v.start_arrow, s, v.y1);
         Piece::Vertical(flow::line_of(v.x1, v.y1, v.bend, head, Head::None))
     } else {
         Piece::Nothing
@@ -158,7 +166,7 @@ pub fn tail(s: bool, arrow: bool, x: usize, from: usize, to: usize) -> Piece
     requires { ⌜ to < 0x800000000000 ⌝ }
     ensures { λ r. ⌜ r ≡ tailY s arrow x from to ⌝ }
 {
-    let head = flow::end_head(arrow, s, to, with_flow(s));
+    let head = end_head(arrow, s, to);
     Piece::Vertical(flow::line_of(x, from, to, head, Head::None))
 }
 
@@ -177,8 +185,8 @@ pub fn straight_line(e: Edge, leg: Leg) -> Piece
     let s = sign(e);
     let starts = flow::and(leg.first, flow::source_marker(e));
     let ends = flow::and(leg.last, flow::target_marker(e));
-    let start = flow::start_head(starts, s, leg.y1, against_flow(s));
-    let end = flow::end_head(ends, s, leg.y2, with_flow(s));
+    let start = start_head(starts, s, leg.y1);
+    let end = end_head(ends, s, leg.y2);
     Piece::Vertical(flow::line_of(leg.x1, leg.y1, leg.y2, start, end))
 }
 
