@@ -3,8 +3,9 @@
 // start".
 ghost use mathlib.Core.Path.{_≡_};
 ghost use Prim.Native.Nat.{_<_};
-ghost use Rattle.x_flow.specs.XFlow.{signX, withX, againstX, directX, crossLineX, crossFirstX, crossLastX, nextX, cornerArrowX};
+ghost use Rattle.x_flow.specs.XFlow.{signX, withX, againstX, directX, crossLineX, crossFirstX, crossLastX, cornerArrowX};
 ghost use Rattle.x_flow.specs.XFlow.{trunkX, ownStartX, tailX, channelLineX, straightLineX, cornerColumn};
+ghost use Rattle.flow.specs.Flow.{startHead, endHead};
 ghost use Rattle.flow.specs.Bounds.{SmallBend, SmallLeg, SmallCoordinate};
 use cell::Arms;
 use cell::Dir;
@@ -23,18 +24,31 @@ pub fn sign(e: Edge) -> bool
     e.from_x <= e.to_x
 }
 
-// The direction s.
-fn with_flow(s: bool) -> Dir
-    ensures { λ r. ⌜ r ≡ withX s ⌝ }
-{
-    if s { Dir::Right } else { Dir::Left }
-}
-
 // The direction −s.
 fn against_flow(s: bool) -> Dir
     ensures { λ r. ⌜ r ≡ againstX s ⌝ }
 {
     if s { Dir::Left } else { Dir::Right }
+}
+
+// A start arrow points −s at from x + s.
+fn start_head(wanted: bool, s: bool, from: usize) -> Head
+    requires { ⌜ from < 0x800000000000 ⌝ }
+    ensures { λ r. ⌜ r ≡ startHead wanted s from (againstX s) ⌝ }
+{
+    flow::start_head(wanted, s, from, against_flow(s))
+}
+
+// An end arrow points s at to x − s.
+fn end_head(wanted: bool, s: bool, to: usize) -> Head
+    requires { ⌜ to < 0x800000000000 ⌝ }
+    ensures { λ r. ⌜ r ≡ endHead wanted s to (withX s) ⌝ }
+{
+    if s {
+        flow::end_head(wanted, true, to, Dir::Right)
+    } else {
+        flow::end_head(wanted, false, to, Dir::Left)
+    }
 }
 
 // Direct, Spline: horizontal at from y, between; end arrow beats start arrow.
@@ -45,8 +59,8 @@ pub fn direct(e: Edge) -> Piece
     let y = ground::number(e.from_y);
     let from = ground::number(e.from_x);
     let to = ground::number(e.to_x);
-    let end = flow::end_head(flow::target_marker(e), s, to, with_flow(s));
-    let start = flow::start_head(flow::source_marker(e), s, from, against_flow(s));
+    let end = end_head(flow::target_marker(e), s, to);
+    let start = start_head(flow::source_marker(e), s, from);
     Piece::Horizontal(flow::line_of(y, from, to, end, start))
 }
 
@@ -92,25 +106,19 @@ pub fn cross_last(w: Weight, s: bool, column: usize, y1: usize, y2: usize) -> Pi
     }
 }
 
-// "bend = from x + s exactly"
-fn next(s: bool, from: usize, bend: usize) -> bool
-    requires { ⌜ (from < 0x1000000000000) × (bend < 0x1000000000000) ⌝ }
-    ensures { λ r. ⌜ r ≡ nextX s from bend ⌝ }
-{
-    if s {
-        bend == from + 1
-    } else {
-        bend + 1 == from
-    }
-}
-
-// Whether an arrow replaces the first corner.
+// Whether an arrow replaces the first corner: "bend = from x + s exactly".
 pub fn corner_arrow(s: bool, v: Bend) -> bool
     requires { ⌜ SmallBend v ⌝ }
     ensures { λ r. ⌜ r ≡ cornerArrowX s v ⌝ }
 {
+    let from = v.x1;
+    let bend = v.bend;
     if v.start_arrow {
-        next(s, v.x1, v.bend)
+        if s {
+            bend == from + 1
+        } else {
+            bend + 1 == from
+        }
     } else {
         false
     }
@@ -122,7 +130,7 @@ pub fn trunk(s: bool, v: Bend) -> Piece
     ensures { λ r. ⌜ r ≡ trunkX s v ⌝ }
 {
     if v.has_trunk {
-        let head = flow::start_head(v.start_arrow, s, v.x1, against_flow(s));
+        let head = start_head(v.start_arrow, s, v.x1);
         Piece::Horizontal(flow::line_of(v.y1, v.x1, v.bend, head, Head::None))
     } else {
         Piece::Nothing
@@ -149,7 +157,7 @@ pub fn tail(s: bool, arrow: bool, y: usize, from: usize, to: usize) -> Piece
     requires { ⌜ to < 0x800000000000 ⌝ }
     ensures { λ r. ⌜ r ≡ tailX s arrow y from to ⌝ }
 {
-    let head = flow::end_head(arrow, s, to, with_flow(s));
+    let head = end_head(arrow, s, to);
     Piece::Horizontal(flow::line_of(y, from, to, head, Head::None))
 }
 
@@ -168,8 +176,8 @@ pub fn straight_line(e: Edge, leg: Leg) -> Piece
     let s = sign(e);
     let starts = flow::and(leg.first, flow::source_marker(e));
     let ends = flow::and(leg.last, flow::target_marker(e));
-    let start = flow::start_head(starts, s, leg.x1, against_flow(s));
-    let end = flow::end_head(ends, s, leg.x2, with_flow(s));
+    let start = start_head(starts, s, leg.x1);
+    let end = end_head(ends, s, leg.x2);
     Piece::Horizontal(flow::line_of(leg.y1, leg.x1, leg.x2, start, end))
 }
 

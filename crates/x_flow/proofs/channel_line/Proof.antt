@@ -6,7 +6,7 @@ use Rattle.x_flow.proofs.channel_line.Tie as tie
 
 returns : tie.Need-returns
 unfolding channelLineX
-returns c = cc
+returns c = rw (c .line-of .ensures)
 
 pub channel-line-spec : {M : Type 1} → statement M
 channel-line-spec =

@@ -4,12 +4,10 @@ use Rattle.x_flow.proofs.corner_arrow.Statement.{statement}
 use Rattle.x_flow.proofs.corner_arrow.Tie as tie
 
 returns : tie.Need-returns
-returns c = rw (c .next .ensures, c .before .if1 .taken)
+returns c = rw (c .before .if1 .taken, c .if2 .taken)
+
+returns-2 : tie.Need-returns-2
+returns-2 c = rw (c .before .if1 .taken, c .if2 .left)
 
 pub corner-arrow-spec : {M : Type 1} → statement M
-corner-arrow-spec =
-    tie.close
-    (tie.spec
-    (λ c κs. search needs)
-    returns
-    (λ c. search needs))
+corner-arrow-spec = tie.close (tie.spec (λ c. search needs) (λ c. search needs) returns returns-2 (λ c. search needs))

@@ -6,7 +6,7 @@ use Rattle.x_flow.proofs.corner_column.Tie as tie
 
 returns : tie.Need-returns
 unfolding cornerColumn
-returns c = (cc, c .along .ensures .1)
+returns c = (rw (← c .before .before .sign .ensures, ← c .before .corner-steps .ensures .0) (c .along .ensures .0), c .along .ensures .1)
 
 pub corner-column-spec : {M : Type 1} → statement M
 corner-column-spec =

@@ -6,7 +6,7 @@ use Rattle.x_flow.proofs.cross_line.Tie as tie
 
 returns : tie.Need-returns
 unfolding crossLineX
-returns c = cc
+returns c = rw (c .line-of .ensures)
 
 pub cross-line-spec : {M : Type 1} → statement M
 cross-line-spec =

@@ -6,7 +6,7 @@ use Rattle.x_flow.proofs.trunk.Tie as tie
 
 returns : tie.Need-returns
 unfolding trunkX
-returns c = rw (c .before .before .before .if1 .taken) (cc)
+returns c = rw (c .before .before .if1 .taken, c .line-of .ensures, c .before .start-head .ensures)
 
 returns-2 : tie.Need-returns-2
 unfolding trunkX
@@ -16,7 +16,6 @@ pub trunk-spec : {M : Type 1} → statement M
 trunk-spec =
     tie.close
     (tie.spec
-    (λ c κs. search needs)
     (λ c κs. search needs)
     (λ c κs. search needs)
     returns
