@@ -17,13 +17,15 @@ use Rattle.rows.specs.Computed.{windowRows}
 use Rattle.rows.proofs.Theorems.{join-assoc}
 use Rattle.flow.specs.declared.Bend.{Bend}
 use Rattle.flow.specs.declared.Leg.{Leg}
+use Rattle.flow.specs.declared.Piece.{Piece}
 use Rattle.flow.specs.declared.Reach.{Reach}
 use Rattle.flow.specs.declared.Coordinate.{Coordinate}
 use Rattle.flow.specs.declared.Coordinate.the-variants as coordinate
 use Rattle.flow.specs.Flow.{lineOf, cornerBend, legBend, targetMarker}
 use Rattle.flow.specs.Pieces.{pieceRunsIn}
 use Rattle.flow.specs.Reach.{rowIf, hasInside, verticalRows, pieceRows, pieceReach, joinReach, withRows, reachOf}
-use Rattle.flow.proofs.Reached.{join-same, join-no-reach, reachOnto, reach-onto, with-vertical, with-piece-if}
+use Rattle.flow.proofs.Reached.{join-same, join-no-reach, reachOnto, reach-onto, with-vertical, with-piece-if, with-first-corner, with-last-corner}
+use Rattle.flow.proofs.Reached.{leg-straight, leg-bent}
 use Rattle.y_flow.specs.YFlow.{signY, directY, crossRunY, crossFirstY, crossLastY, cornerArrowY, trunkY, ownStartY, tailY}
 use Rattle.y_flow.specs.YFlow.{bentY, cornerY, channelLineY, sideY, straightLineY, straightY, cornerRow, crossingY, legY}
 use Rattle.y_reach.specs.Reach.{trunkRows, crossingReach, bentReach, channelReach}
@@ -47,41 +49,41 @@ module _ (window : Window) where
         either true = join-same (windowRows window row row)
         either false = refl
 
+    crossed-rows :
+        (r : Rows) →
+        joinRows (joinRows (joinRows r (rowIf window (hasInside x1 x2) row)) (rowIf window (not (eqb x1 x2)) row)) (rowIf window (not (eqb x1 x2)) row)
+        ≡ joinRows r (rowIf window (not (eqb x1 x2)) row)
+    crossed-rows r =
+        let f = rowIf window (not (eqb x1 x2)) row in
+        rw (join-assoc r (rowIf window (hasInside x1 x2) row) f, inside) (join-assoc r f f ∙ rw (join-same f))
+
+    crossed :
+        (reach : Reach) →
+        withRows
+        (withRows (joinReach reach (pieceReach window (crossRunY row x1 x2))) (rowIf window (not (eqb x1 x2)) row))
+        (rowIf window (not (eqb x1 x2)) row)
+        ≡ joinReach reach (crossingReach window row x1 x2)
+    unfolding withRows joinReach pieceReach crossingReach
+    crossed reach = rw (run-rows, crossed-rows (reach .rows))
+
     module _ (w : Weight) (s : Bool) where
-      first-rows : (arrow : Bool) → pieceRows window (crossFirstY w s arrow row x1 x2) ≡ rowIf window (not (eqb x1 x2)) row
-      unfolding pieceRows crossFirstY
-      first-rows true = by-bool (eqb x1 x2) (λ t. rw t) (λ t. rw t)
-      first-rows false = by-bool (eqb x1 x2) (λ t. rw t) (λ t. rw t)
+      first-reached :
+          (arrow : Bool) (reach : Reach) →
+          joinReach reach (pieceReach window (crossFirstY w s arrow row x1 x2)) ≡ withRows reach (rowIf window (not (eqb x1 x2)) row)
+      unfolding crossFirstY
+      first-reached arrow reach = with-first-corner window reach (eqb x1 x2) x1 row _ arrow _
 
-      first-runs : (arrow : Bool) → pieceRunsIn window (crossFirstY w s arrow row x1 x2) ≡ 0
-      unfolding pieceRunsIn crossFirstY
-      first-runs true = by-bool (eqb x1 x2) (λ t. rw t) (λ t. rw t)
-      first-runs false = by-bool (eqb x1 x2) (λ t. rw t) (λ t. rw t)
+      last-reached :
+          (reach : Reach) →
+          joinReach reach (pieceReach window (crossLastY w s row x1 x2)) ≡ withRows reach (rowIf window (not (eqb x1 x2)) row)
+      unfolding crossLastY
+      last-reached reach = with-last-corner window reach (eqb x1 x2) x2 row _
 
-      last-rows : pieceRows window (crossLastY w s row x1 x2) ≡ rowIf window (not (eqb x1 x2)) row
-      unfolding pieceRows crossLastY
-      last-rows = by-bool (eqb x1 x2) (λ t. rw t) (λ t. rw t)
-
-      last-runs : pieceRunsIn window (crossLastY w s row x1 x2) ≡ 0
-      unfolding pieceRunsIn crossLastY
-      last-runs = by-bool (eqb x1 x2) (λ t. rw t) (λ t. rw t)
-
-      crossed-rows :
-          (r : Rows) →
-          joinRows (joinRows (joinRows r (rowIf window (hasInside x1 x2) row)) (rowIf window (not (eqb x1 x2)) row)) (rowIf window (not (eqb x1 x2)) row)
-          ≡ joinRows r (rowIf window (not (eqb x1 x2)) row)
-      crossed-rows r =
-          let f = rowIf window (not (eqb x1 x2)) row in
-          rw (join-assoc r (rowIf window (hasInside x1 x2) row) f, inside) (join-assoc r f f ∙ rw (join-same f))
-
-      pub crossing-reached :
+      crossing-reached :
           (arrow : Bool) (reach : Reach) →
           reachOnto window reach (crossRunY row x1 x2 ∷ crossFirstY w s arrow row x1 x2 ∷ crossLastY w s row x1 x2 ∷ [])
           ≡ joinReach reach (crossingReach window row x1 x2)
-      unfolding pieceReach joinReach crossingReach
-      crossing-reached arrow reach =
-          let n : reach .runs + pieceRunsIn window (crossRunY row x1 x2) + 0 + 0 ≡ reach .runs + pieceRunsIn window (crossRunY row x1 x2) = omega arith in
-          rw (run-rows, first-rows arrow, first-runs arrow, last-rows, last-runs, n, crossed-rows (reach .rows))
+      crossing-reached arrow reach = rw (first-reached arrow, last-reached) (crossed reach)
 
   -- A trunk, a stroke at the start, and a tail.
 
@@ -118,40 +120,13 @@ module _ (window : Window) where
         tail-reached s (v .«end_arrow») (v .x2) (v .bend) (v .y2),
       )
 
-  -- And so do an edge with a Corner, a Direct edge, an edge with a SideChannel, and a straight leg.
-
-  pub corner-reached :
-      (e : Edge) (bend : ℕ) (reach : Reach) →
-      joinReach reach (reachOf window (cornerY e bend))
-      ≡ bentReach reach window true false bend (e .«from_x») (e .«from_y») (e .«to_x») (e .«to_y»)
-  unfolding cornerY cornerBend
-  corner-reached e bend reach = bent-reached (e .weight) (signY e) (cornerBend e bend) reach
-
-  pub direct-reached :
-      (e : Edge) (reach : Reach) →
-      joinReach reach (pieceReach window (directY e)) ≡ withRows reach (verticalRows window (e .«from_y») (e .«to_y»))
-  unfolding directY lineOf
-  direct-reached e reach = with-vertical window reach _
+  -- So does a line in a channel, and a straight leg.
 
   channel-reached :
       (channel start end : ℕ) (reach : Reach) →
       joinReach reach (pieceReach window (channelLineY channel start end)) ≡ withRows reach (verticalRows window start end)
   unfolding channelLineY lineOf
   channel-reached channel start end reach = with-vertical window reach _
-
-  pub side-reached :
-      (e : Edge) (channel start end : ℕ) (reach : Reach) →
-      joinReach reach (reachOf window (sideY e channel start end))
-      ≡ channelReach reach window channel start end (e .«from_x») (e .«to_x») (e .«to_y»)
-  unfolding channelReach sideY
-  side-reached e channel start end reach =
-      sym (reach-onto window reach (sideY e channel start end))
-      ∙ rw (
-        crossing-reached start (e .«from_x») channel (e .weight) (signY e) false reach,
-        channel-reached channel start end,
-        crossing-reached end channel (e .«to_x») (e .weight) (signY e) false,
-        tail-reached (signY e) (targetMarker e) (e .«to_x») end (e .«to_y»),
-      )
 
   line-reached :
       (e : Edge) (leg : Leg) (reach : Reach) →
@@ -168,31 +143,115 @@ module _ (window : Window) where
       sym (reach-onto window reach (straightY e leg))
       ∙ rw (start-reached (e .weight) (not (leg .first)) (leg .x1) (leg .y1) reach, line-reached e leg)
 
-  -- A leg of a MultiSegment: straight, with a corner below 0, and bent.
+  -- What the code finds, from what it calls: with a crossing, a way that bends once, and a channel between two crossings.
 
-  module _ (e : Edge) (offset : ℕ) (leg : Leg) (reach : Reach) where
-    pub straight-leg :
-        (r : Reach) →
-        leg .x1 ≡ leg .x2 →
-        r ≡ withRows (withRows reach (rowIf window (not (leg .first)) (leg .y1))) (verticalRows window (leg .y1) (leg .y2)) →
-        r ≡ joinReach reach (reachOf window (legY e offset leg))
-    unfolding legY
-    straight-leg r h q = rw (eq-eqb (leg .x1) (leg .x2) h) (q ∙ sym (straight-reached e leg reach))
+  module _ (reach : Reach) where
+    pub crossing-joined :
+        (row x1 x2 runs : ℕ) (crossed : Reach) (run : Piece) →
+        crossed ≡ withRows reach (rowIf window (not (eqb x1 x2)) row) →
+        runs ≡ pieceRunsIn window run →
+        run ≡ crossRunY row x1 x2 →
+        record { rows = crossed .rows; runs = reach .runs + runs } ≡ joinReach reach (crossingReach window row x1 x2)
+    unfolding withRows joinReach crossingReach
+    crossing-joined row x1 x2 runs crossed run p q u = rw (p, q, u)
 
-    pub below-leg :
-        (leg .x1 ≡ leg .x2 → ⊥) →
-        cornerRow e offset leg ≡ coordinate.Below →
-        reach ≡ joinReach reach (reachOf window (legY e offset leg))
-    unfolding legY crossingY reachOf
-    below-leg h q = rw (ne-eqb (leg .x1) (leg .x2) h, q) (sym (join-no-reach reach))
+    pub bent-joined :
+        (has-trunk strokes : Bool) (bend x1 y1 x2 y2 : ℕ) (trunk start crossed r : Reach) →
+        r ≡ withRows crossed (verticalRows window bend y2) →
+        crossed ≡ joinReach start (crossingReach window bend x1 x2) →
+        start ≡ withRows trunk (rowIf window strokes y1) →
+        trunk ≡ withRows reach (trunkRows window has-trunk y1 bend) →
+        r ≡ bentReach reach window has-trunk strokes bend x1 y1 x2 y2
+    unfolding bentReach
+    bent-joined has-trunk strokes bend x1 y1 x2 y2 trunk start crossed r p q u t = rw (← t, ← u, ← q) p
 
-    pub bent-leg :
-        (r : Reach) (corner : Coordinate) (bend : ℕ) →
-        (leg .x1 ≡ leg .x2 → ⊥) →
-        corner ≡ coordinate.At bend →
-        corner ≡ cornerRow e offset leg →
-        r ≡ bentReach reach window (leg .first && ltb 0 offset) (not (leg .first)) bend (leg .x1) (leg .y1) (leg .x2) (leg .y2) →
-        r ≡ joinReach reach (reachOf window (legY e offset leg))
-    unfolding legY crossingY legBend
-    bent-leg r corner bend h a q b =
-        rw (ne-eqb (leg .x1) (leg .x2) h, ← q, a) (b ∙ sym (bent-reached (e .weight) (signY e) (legBend e offset leg bend) reach))
+    pub channel-joined :
+        (channel first last x1 x2 y2 : ℕ) (out side back r : Reach) →
+        r ≡ withRows back (verticalRows window last y2) →
+        back ≡ joinReach side (crossingReach window last channel x2) →
+        side ≡ withRows out (verticalRows window first last) →
+        out ≡ joinReach reach (crossingReach window first x1 channel) →
+        r ≡ channelReach reach window channel first last x1 x2 y2
+    unfolding channelReach
+    channel-joined channel first last x1 x2 y2 out side back r p q u t = rw (← t, ← u, ← q) p
+
+  -- And for an edge: a Direct one, one with a Corner, and one with a SideChannel.
+
+  module _ (e : Edge) (reach r : Reach) where
+    pub direct-reached :
+        (from to : ℕ) →
+        r ≡ withRows reach (verticalRows window from to) →
+        from ≡ e .«from_y» →
+        to ≡ e .«to_y» →
+        r ≡ joinReach reach (pieceReach window (directY e))
+    unfolding directY lineOf
+    direct-reached from to p f t = p ∙ rw (f, t) (sym (with-vertical window reach _))
+
+    pub corner-reached :
+        (place bend x1 y1 x2 y2 : ℕ) →
+        r ≡ bentReach reach window true false bend x1 y1 x2 y2 →
+        bend ≡ place →
+        x1 ≡ e .«from_x» →
+        y1 ≡ e .«from_y» →
+        x2 ≡ e .«to_x» →
+        y2 ≡ e .«to_y» →
+        r ≡ joinReach reach (reachOf window (cornerY e place))
+    unfolding cornerY cornerBend
+    corner-reached place bend x1 y1 x2 y2 p n a b c d =
+        p ∙ rw (n, a, b, c, d) (sym (bent-reached (e .weight) (signY e) (cornerBend e place) reach))
+
+    side-pieces :
+        (channel start end : ℕ) →
+        joinReach reach (reachOf window (sideY e channel start end))
+        ≡ channelReach reach window channel start end (e .«from_x») (e .«to_x») (e .«to_y»)
+    unfolding channelReach sideY
+    side-pieces channel start end =
+        sym (reach-onto window reach (sideY e channel start end))
+        ∙ rw (
+          crossing-reached start (e .«from_x») channel (e .weight) (signY e) false reach,
+          channel-reached channel start end,
+          crossing-reached end channel (e .«to_x») (e .weight) (signY e) false,
+          tail-reached (signY e) (targetMarker e) (e .«to_x») end (e .«to_y»),
+        )
+
+    pub side-reached :
+        (channel start end column first last x1 x2 y2 : ℕ) →
+        r ≡ channelReach reach window column first last x1 x2 y2 →
+        column ≡ channel →
+        first ≡ start →
+        last ≡ end →
+        x1 ≡ e .«from_x» →
+        x2 ≡ e .«to_x» →
+        y2 ≡ e .«to_y» →
+        r ≡ joinReach reach (reachOf window (sideY e channel start end))
+    side-reached channel start end column first last x1 x2 y2 p k f l a b c =
+        p ∙ rw (k, f, l, a, b, c) (sym (side-pieces channel start end))
+
+    -- A leg of a MultiSegment: straight, with a corner below 0, and bent.
+
+    module _ (offset : ℕ) (leg : Leg) where
+      pub straight-leg :
+          (start : Reach) →
+          r ≡ withRows start (verticalRows window (leg .y1) (leg .y2)) →
+          start ≡ withRows reach (rowIf window (not (leg .first)) (leg .y1)) →
+          leg .x1 ≡ leg .x2 →
+          r ≡ joinReach reach (reachOf window (legY e offset leg))
+      unfolding legY
+      straight-leg start p q h =
+          leg-straight window reach r (leg .x1) (leg .x2) _ _ h (p ∙ rw q (sym (straight-reached e leg reach)))
+
+      module _ (corner : Coordinate) (is : corner ≡ cornerRow e offset leg) (h : leg .x1 ≡ leg .x2 → ⊥) where
+        pub below-leg : corner ≡ coordinate.Below → r ≡ reach → r ≡ joinReach reach (reachOf window (legY e offset leg))
+        unfolding legY crossingY reachOf
+        below-leg b p = leg-bent window reach r (leg .x1) (leg .x2) _ _ h (rw (← is, b) (p ∙ sym (join-no-reach reach)))
+
+        pub bent-leg :
+            (bend : ℕ) (has-trunk : Bool) →
+            corner ≡ coordinate.At bend →
+            r ≡ bentReach reach window has-trunk (not (leg .first)) bend (leg .x1) (leg .y1) (leg .x2) (leg .y2) →
+            has-trunk ≡ leg .first && ltb 0 offset →
+            r ≡ joinReach reach (reachOf window (legY e offset leg))
+        unfolding legY crossingY legBend
+        bent-leg bend has-trunk a p t =
+            leg-bent window reach r (leg .x1) (leg .x2) _ _ h
+            (rw (← is, a) (p ∙ rw t (sym (bent-reached (e .weight) (signY e) (legBend e offset leg bend) reach))))

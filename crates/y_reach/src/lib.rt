@@ -4,22 +4,21 @@ ghost use Prim.Native.Nat.{_+_, _≤_, _<_};
 ghost use Rattle.y_flow.specs.YFlow.{directY, cornerY, sideY, legY};
 ghost use Rattle.y_reach.specs.Reach.{trunkRows, crossingReach, bentReach, channelReach};
 ghost use Rattle.flow.specs.Bounds.{bound, SmallLeg};
-ghost use Rattle.flow.specs.Reach.{joinReach, pieceReach, reachOf};
+ghost use Rattle.flow.specs.Reach.{joinReach, pieceReach, withRows, reachOf};
 use flow::Coordinate;
 use flow::Leg;
 use flow::Reach;
 use image::Edge;
-use rows::Rows;
 use rows::Window;
 
-// The rows of a trunk, where there is one.
-fn trunk_rows(window: Window, has_trunk: bool, y1: usize, bend: usize) -> Rows
-    ensures { λ r. ⌜ r ≡ trunkRows window «has_trunk» y1 bend ⌝ }
+// What is reached with a trunk, where there is one.
+fn trunk_reach(reach: Reach, window: Window, has_trunk: bool, y1: usize, bend: usize) -> Reach
+    ensures { λ r. ⌜ (r ≡ withRows reach (trunkRows window «has_trunk» y1 bend)) × (r .runs ≡ reach .runs) ⌝ }
 {
     if has_trunk {
-        touch::vertical_rows(window, y1, bend)
+        touch::with_vertical(reach, window, y1, bend)
     } else {
-        Rows::None
+        reach
     }
 }
 
@@ -28,9 +27,10 @@ fn crossing_reach(reach: Reach, window: Window, row: usize, x1: usize, x2: usize
     requires { ⌜ (x1 < bound) × (x2 < bound) × (reach .runs < 0x4000000000000000) ⌝ }
     ensures { λ r. ⌜ (r ≡ joinReach reach (crossingReach window row x1 x2)) × (r .runs ≤ reach .runs + 1) ⌝ }
 {
-    let rows = reach.rows;
+    let crossed = touch::with_row_if(reach, window, x1 != x2, row);
+    let rows = crossed.rows;
     Reach {
-        rows: rows.join(touch::row_if(window, x1 != x2, row)),
+        rows: rows,
         runs: reach.runs + touch::piece_runs(window, y_flow::cross_run(row, x1, x2)),
     }
 }
@@ -50,10 +50,10 @@ fn bent_reach(
     requires { ⌜ (x1 < bound) × (x2 < bound) × (reach .runs < 0x4000000000000000) ⌝ }
     ensures { λ r. ⌜ (r ≡ bentReach reach window «has_trunk» «strokes_start» bend x1 y1 x2 y2) × (r .runs ≤ reach .runs + 1) ⌝ }
 {
-    let trunk = touch::with_rows(reach, trunk_rows(window, has_trunk, y1, bend));
-    let start = touch::with_rows(trunk, touch::row_if(window, strokes_start, y1));
+    let trunk = trunk_reach(reach, window, has_trunk, y1, bend);
+    let start = touch::with_row_if(trunk, window, strokes_start, y1);
     let crossed = crossing_reach(start, window, bend, x1, x2);
-    touch::with_rows(crossed, touch::vertical_rows(window, bend, y2))
+    touch::with_vertical(crossed, window, bend, y2)
 }
 
 // What is reached with a Direct edge or a Spline.
@@ -62,7 +62,7 @@ pub fn direct_reach(reach: Reach, window: Window, e: Edge) -> Reach
 {
     let from = ground::number(e.from_y);
     let to = ground::number(e.to_y);
-    touch::with_rows(reach, touch::vertical_rows(window, from, to))
+    touch::with_vertical(reach, window, from, to)
 }
 
 // What is reached with a Corner.
@@ -93,9 +93,9 @@ fn channel_reach(
     ensures { λ r. ⌜ (r ≡ channelReach reach window channel start end x1 x2 y2) × (r .runs ≤ reach .runs + 2) ⌝ }
 {
     let out = crossing_reach(reach, window, start, x1, channel);
-    let side = touch::with_rows(out, touch::vertical_rows(window, start, end));
+    let side = touch::with_vertical(out, window, start, end);
     let back = crossing_reach(side, window, end, channel, x2);
-    touch::with_rows(back, touch::vertical_rows(window, end, y2))
+    touch::with_vertical(back, window, end, y2)
 }
 
 // What is reached with a SideChannel.
@@ -126,8 +126,8 @@ pub fn leg_reach(reach: Reach, window: Window, e: Edge, offset: u32, leg: Leg) -
 {
     let first = leg.first;
     if leg.x1 == leg.x2 {
-        let start = touch::with_rows(reach, touch::row_if(window, !first, leg.y1));
-        return touch::with_rows(start, touch::vertical_rows(window, leg.y1, leg.y2));
+        let start = touch::with_row_if(reach, window, !first, leg.y1);
+        return touch::with_vertical(start, window, leg.y1, leg.y2);
     }
     let corner = y_flow::corner_row(e, offset, leg);
     let Coordinate::At(bend) = corner else {
