@@ -15,6 +15,7 @@ use Rattle.rows.specs.declared.Rows.the-variants as rows
 use Rattle.rows.specs.declared.Window.{Window}
 use Rattle.rows.specs.Window.{joinRows, touchedRows}
 use Rattle.rows.specs.Computed.{windowRows}
+use Rattle.rows.proofs.Theorems.{join-none}
 use Rattle.rows.proofs.Windows.{touched-or, touched-same, window-row, window-rows}
 use Rattle.flow.specs.declared.Bend.{Bend}
 use Rattle.flow.specs.declared.Coordinate.{Coordinate}
@@ -24,7 +25,8 @@ use Rattle.flow.specs.declared.Reach.{Reach}
 use Rattle.flow.specs.Flow.{lineOf, cornerBend, legBend, targetMarker}
 use Rattle.flow.specs.Pieces.{pieceRunsIn}
 use Rattle.flow.specs.Reach.{rowIf, verticalRows, horizontalRows, pieceRows, pieceReach, joinReach, withRows, reachOf}
-use Rattle.flow.proofs.Reached.{vertical-short, join-no-reach, reachOnto, reach-onto, with-piece-rows, with-horizontal, with-piece-if, with-rows-three}
+use Rattle.flow.proofs.Reached.{vertical-short, join-no-reach, reachOnto, reach-onto, with-vertical, with-horizontal, with-piece-if, with-first-corner}
+use Rattle.flow.proofs.Reached.{with-last-corner, with-rows-three, leg-straight, leg-bent}
 use Rattle.x_flow.specs.XFlow.{signX, directX, crossLineX, crossFirstX, crossLastX, cornerArrowX, trunkX, ownStartX, tailX}
 use Rattle.x_flow.specs.XFlow.{bentX, cornerX, channelLineX, sideX, straightLineX, straightX, cornerColumn, crossingX, legX}
 use Rattle.x_reach.specs.Reach.{trunkRows, crossingRows, bentReach, channelReach}
@@ -89,42 +91,28 @@ module _ (window : Window) where
         (λ t. rw t (whole (eqb-false y1 y2 t)))
 
     module _ (w : Weight) (s : Bool) (column : ℕ) where
-      line-rows : pieceRows window (crossLineX column y1 y2) ≡ verticalRows window y1 y2
-      unfolding pieceRows crossLineX lineOf
-      line-rows = refl
+      between-reached : (reach : Reach) → joinReach reach (pieceReach window (crossLineX column y1 y2)) ≡ withRows reach (verticalRows window y1 y2)
+      unfolding crossLineX lineOf
+      between-reached reach = with-vertical window reach _
 
-      line-runs : pieceRunsIn window (crossLineX column y1 y2) ≡ 0
-      unfolding pieceRunsIn crossLineX
-      line-runs = refl
+      first-reached :
+          (arrow : Bool) (reach : Reach) →
+          joinReach reach (pieceReach window (crossFirstX w s arrow column y1 y2)) ≡ withRows reach (rowIf window (not (eqb y1 y2)) y1)
+      unfolding crossFirstX
+      first-reached arrow reach = with-first-corner window reach (eqb y1 y2) column y1 _ arrow _
 
-      first-rows : (arrow : Bool) → pieceRows window (crossFirstX w s arrow column y1 y2) ≡ rowIf window (not (eqb y1 y2)) y1
-      unfolding pieceRows crossFirstX
-      first-rows true = by-bool (eqb y1 y2) (λ t. rw t) (λ t. rw t)
-      first-rows false = by-bool (eqb y1 y2) (λ t. rw t) (λ t. rw t)
+      last-reached :
+          (reach : Reach) →
+          joinReach reach (pieceReach window (crossLastX w s column y1 y2)) ≡ withRows reach (rowIf window (not (eqb y1 y2)) y2)
+      unfolding crossLastX
+      last-reached reach = with-last-corner window reach (eqb y1 y2) column y2 _
 
-      first-runs : (arrow : Bool) → pieceRunsIn window (crossFirstX w s arrow column y1 y2) ≡ 0
-      unfolding pieceRunsIn crossFirstX
-      first-runs true = by-bool (eqb y1 y2) (λ t. rw t) (λ t. rw t)
-      first-runs false = by-bool (eqb y1 y2) (λ t. rw t) (λ t. rw t)
-
-      last-rows : pieceRows window (crossLastX w s column y1 y2) ≡ rowIf window (not (eqb y1 y2)) y2
-      unfolding pieceRows crossLastX
-      last-rows = by-bool (eqb y1 y2) (λ t. rw t) (λ t. rw t)
-
-      last-runs : pieceRunsIn window (crossLastX w s column y1 y2) ≡ 0
-      unfolding pieceRunsIn crossLastX
-      last-runs = by-bool (eqb y1 y2) (λ t. rw t) (λ t. rw t)
-
-      pub crossing-reached :
+      crossing-reached :
           (arrow : Bool) (reach : Reach) →
           reachOnto window reach (crossLineX column y1 y2 ∷ crossFirstX w s arrow column y1 y2 ∷ crossLastX w s column y1 y2 ∷ [])
           ≡ withRows reach (crossingRows window y1 y2)
       crossing-reached arrow reach =
-          rw (
-            with-piece-rows window reach (crossLineX column y1 y2) _ line-rows line-runs,
-            with-piece-rows window (withRows reach (verticalRows window y1 y2)) (crossFirstX w s arrow column y1 y2) _ (first-rows arrow) (first-runs arrow),
-            with-piece-rows window _ (crossLastX w s column y1 y2) _ last-rows last-runs,
-          )
+          rw (between-reached reach, first-reached arrow, last-reached)
           (with-rows-three reach (verticalRows window y1 y2) _ _ ∙ rw crossed)
 
   -- A trunk, a stroke at the start, and a tail.
@@ -162,41 +150,13 @@ module _ (window : Window) where
         tail-reached s (v .«end_arrow») (v .y2) (v .bend) (v .x2),
       )
 
-  -- And so do an edge with a Corner, a Direct edge, an edge with a SideChannel, and a straight leg.
-
-  pub corner-reached :
-      (e : Edge) (bend : ℕ) (reach : Reach) →
-      joinReach reach (reachOf window (cornerX e bend))
-      ≡ bentReach reach window true false bend (e .«from_x») (e .«from_y») (e .«to_x») (e .«to_y»)
-  unfolding cornerX cornerBend
-  corner-reached e bend reach = bent-reached (e .weight) (signX e) (cornerBend e bend) reach
-
-  pub direct-reached :
-      (e : Edge) (reach : Reach) →
-      joinReach reach (pieceReach window (directX e)) ≡ withRows reach (horizontalRows window (e .«from_y») (e .«from_x») (e .«to_x»))
-  unfolding directX lineOf
-  direct-reached e reach = with-horizontal window reach _
+  -- So does a line in a channel, and a straight leg.
 
   channel-reached :
       (channel start end : ℕ) (reach : Reach) →
       joinReach reach (pieceReach window (channelLineX channel start end)) ≡ withRows reach (horizontalRows window channel start end)
   unfolding channelLineX lineOf
   channel-reached channel start end reach = with-horizontal window reach _
-
-  pub side-reached :
-      (e : Edge) (channel start end : ℕ) (reach : Reach) →
-      joinReach reach (reachOf window (sideX e channel start end))
-      ≡ channelReach reach window channel start end (e .«from_x») (e .«from_y») (e .«to_x») (e .«to_y»)
-  unfolding channelReach sideX cornerBend
-  side-reached e channel start end reach =
-      sym (reach-onto window reach (sideX e channel start end))
-      ∙ rw (
-        trunk-reached (signX e) (cornerBend e start) reach,
-        crossing-reached (e .«from_y») channel (e .weight) (signX e) start (cornerArrowX (signX e) (cornerBend e start)),
-        channel-reached channel start end,
-        crossing-reached channel (e .«to_y») (e .weight) (signX e) end false,
-        tail-reached (signX e) (targetMarker e) (e .«to_y») end (e .«to_x»),
-      )
 
   line-reached :
       (e : Edge) (leg : Leg) (reach : Reach) →
@@ -213,31 +173,126 @@ module _ (window : Window) where
       sym (reach-onto window reach (straightX e leg))
       ∙ rw (start-reached (e .weight) (not (leg .first)) (leg .x1) (leg .y1) reach, line-reached e leg)
 
-  -- A leg of a MultiSegment: straight, with a corner below 0, and bent.
+  -- What the code finds, from what it calls: with a crossing, a way that bends once, and a channel between two crossings.
 
-  module _ (e : Edge) (offset : ℕ) (leg : Leg) (reach : Reach) where
-    pub straight-leg :
-        (r : Reach) →
-        leg .y1 ≡ leg .y2 →
-        r ≡ withRows (withRows reach (rowIf window (not (leg .first)) (leg .y1))) (horizontalRows window (leg .y1) (leg .x1) (leg .x2)) →
-        r ≡ joinReach reach (reachOf window (legX e offset leg))
-    unfolding legX
-    straight-leg r h q = rw (eq-eqb (leg .y1) (leg .y2) h) (q ∙ sym (straight-reached e leg reach))
+  module _ (reach : Reach) where
+    module _ (y1 y2 : ℕ) where
+      pub crossing-none : y1 ≡ y2 → reach ≡ withRows reach (crossingRows window y1 y2)
+      unfolding withRows crossingRows
+      crossing-none h = rw (eq-eqb y1 y2 h, join-none (reach .rows))
 
-    pub below-leg :
-        (leg .y1 ≡ leg .y2 → ⊥) →
-        cornerColumn e offset leg ≡ coordinate.Below →
-        reach ≡ joinReach reach (reachOf window (legX e offset leg))
-    unfolding legX crossingX reachOf
-    below-leg h q = rw (ne-eqb (leg .y1) (leg .y2) h, q) (sym (join-no-reach reach))
+      pub crossing-joined :
+          (top bottom : ℕ) (between : Rows) (r : Reach) →
+          r ≡ withRows reach between →
+          between ≡ windowRows window top bottom →
+          top ≡ min y1 y2 →
+          bottom ≡ max y1 y2 →
+          (y1 ≡ y2 → ⊥) →
+          r ≡ withRows reach (crossingRows window y1 y2)
+      unfolding crossingRows
+      crossing-joined top bottom between r p q t b h = rw (ne-eqb y1 y2 h, ← t, ← b, ← q) p
 
-    pub bent-leg :
-        (r : Reach) (corner : Coordinate) (bend : ℕ) →
-        (leg .y1 ≡ leg .y2 → ⊥) →
-        corner ≡ coordinate.At bend →
-        corner ≡ cornerColumn e offset leg →
-        r ≡ bentReach reach window (leg .first && ltb 0 offset) (not (leg .first)) bend (leg .x1) (leg .y1) (leg .x2) (leg .y2) →
-        r ≡ joinReach reach (reachOf window (legX e offset leg))
-    unfolding legX crossingX legBend
-    bent-leg r corner bend h a q b =
-        rw (ne-eqb (leg .y1) (leg .y2) h, ← q, a) (b ∙ sym (bent-reached (e .weight) (signX e) (legBend e offset leg bend) reach))
+    pub bent-joined :
+        (has-trunk strokes : Bool) (bend x1 y1 x2 y2 : ℕ) (trunk start crossed r : Reach) →
+        r ≡ withRows crossed (horizontalRows window y2 bend x2) →
+        crossed ≡ withRows start (crossingRows window y1 y2) →
+        start ≡ withRows trunk (rowIf window strokes y1) →
+        trunk ≡ withRows reach (trunkRows window has-trunk y1 x1 bend) →
+        r ≡ bentReach reach window has-trunk strokes bend x1 y1 x2 y2
+    unfolding bentReach
+    bent-joined has-trunk strokes bend x1 y1 x2 y2 trunk start crossed r p q u t = rw (← t, ← u, ← q) p
+
+    pub channel-joined :
+        (channel first last x1 y1 x2 y2 : ℕ) (trunk out side back r : Reach) →
+        r ≡ withRows back (horizontalRows window y2 last x2) →
+        back ≡ withRows side (crossingRows window channel y2) →
+        side ≡ withRows out (horizontalRows window channel first last) →
+        out ≡ withRows trunk (crossingRows window y1 channel) →
+        trunk ≡ withRows reach (horizontalRows window y1 x1 first) →
+        r ≡ channelReach reach window channel first last x1 y1 x2 y2
+    unfolding channelReach
+    channel-joined channel first last x1 y1 x2 y2 trunk out side back r p q u t s = rw (← s, ← t, ← u, ← q) p
+
+  -- And for an edge: a Direct one, one with a Corner, and one with a SideChannel.
+
+  module _ (e : Edge) (reach r : Reach) where
+    pub direct-reached :
+        (row from to : ℕ) →
+        r ≡ withRows reach (horizontalRows window row from to) →
+        row ≡ e .«from_y» →
+        from ≡ e .«from_x» →
+        to ≡ e .«to_x» →
+        r ≡ joinReach reach (pieceReach window (directX e))
+    unfolding directX lineOf
+    direct-reached row from to p y f t = p ∙ rw (y, f, t) (sym (with-horizontal window reach _))
+
+    pub corner-reached :
+        (place bend x1 y1 x2 y2 : ℕ) →
+        r ≡ bentReach reach window true false bend x1 y1 x2 y2 →
+        bend ≡ place →
+        x1 ≡ e .«from_x» →
+        y1 ≡ e .«from_y» →
+        x2 ≡ e .«to_x» →
+        y2 ≡ e .«to_y» →
+        r ≡ joinReach reach (reachOf window (cornerX e place))
+    unfolding cornerX cornerBend
+    corner-reached place bend x1 y1 x2 y2 p n a b c d =
+        p ∙ rw (n, a, b, c, d) (sym (bent-reached (e .weight) (signX e) (cornerBend e place) reach))
+
+    side-pieces :
+        (channel start end : ℕ) →
+        joinReach reach (reachOf window (sideX e channel start end))
+        ≡ channelReach reach window channel start end (e .«from_x») (e .«from_y») (e .«to_x») (e .«to_y»)
+    unfolding channelReach sideX cornerBend
+    side-pieces channel start end =
+        sym (reach-onto window reach (sideX e channel start end))
+        ∙ rw (
+          trunk-reached (signX e) (cornerBend e start) reach,
+          crossing-reached (e .«from_y») channel (e .weight) (signX e) start (cornerArrowX (signX e) (cornerBend e start)),
+          channel-reached channel start end,
+          crossing-reached channel (e .«to_y») (e .weight) (signX e) end false,
+          tail-reached (signX e) (targetMarker e) (e .«to_y») end (e .«to_x»),
+        )
+
+    pub side-reached :
+        (channel start end row first last x1 y1 x2 y2 : ℕ) →
+        r ≡ channelReach reach window row first last x1 y1 x2 y2 →
+        row ≡ channel →
+        first ≡ start →
+        last ≡ end →
+        x1 ≡ e .«from_x» →
+        y1 ≡ e .«from_y» →
+        x2 ≡ e .«to_x» →
+        y2 ≡ e .«to_y» →
+        r ≡ joinReach reach (reachOf window (sideX e channel start end))
+    side-reached channel start end row first last x1 y1 x2 y2 p k f l a b c d =
+        p ∙ rw (k, f, l, a, b, c, d) (sym (side-pieces channel start end))
+
+    -- A leg of a MultiSegment: straight, with a corner below 0, and bent.
+
+    module _ (offset : ℕ) (leg : Leg) where
+      pub straight-leg :
+          (start : Reach) →
+          r ≡ withRows start (horizontalRows window (leg .y1) (leg .x1) (leg .x2)) →
+          start ≡ withRows reach (rowIf window (not (leg .first)) (leg .y1)) →
+          leg .y1 ≡ leg .y2 →
+          r ≡ joinReach reach (reachOf window (legX e offset leg))
+      unfolding legX
+      straight-leg start p q h =
+          leg-straight window reach r (leg .y1) (leg .y2) _ _ h (p ∙ rw q (sym (straight-reached e leg reach)))
+
+      module _ (corner : Coordinate) (is : corner ≡ cornerColumn e offset leg) (h : leg .y1 ≡ leg .y2 → ⊥) where
+        pub below-leg : corner ≡ coordinate.Below → r ≡ reach → r ≡ joinReach reach (reachOf window (legX e offset leg))
+        unfolding legX crossingX reachOf
+        below-leg b p = leg-bent window reach r (leg .y1) (leg .y2) _ _ h (rw (← is, b) (p ∙ sym (join-no-reach reach)))
+
+        pub bent-leg :
+            (bend : ℕ) (has-trunk : Bool) →
+            corner ≡ coordinate.At bend →
+            r ≡ bentReach reach window has-trunk (not (leg .first)) bend (leg .x1) (leg .y1) (leg .x2) (leg .y2) →
+            has-trunk ≡ leg .first && ltb 0 offset →
+            r ≡ joinReach reach (reachOf window (legX e offset leg))
+        unfolding legX crossingX legBend
+        bent-leg bend has-trunk a p t =
+            leg-bent window reach r (leg .y1) (leg .y2) _ _ h
+            (rw (← is, a) (p ∙ rw t (sym (bent-reached (e .weight) (signX e) (legBend e offset leg bend) reach))))

@@ -4,33 +4,39 @@ ghost use Prim.Native.Nat.{_<_};
 ghost use Rattle.x_flow.specs.XFlow.{directX, cornerX, sideX, legX};
 ghost use Rattle.x_reach.specs.Reach.{trunkRows, crossingRows, bentReach, channelReach};
 ghost use Rattle.flow.specs.Bounds.{SmallLeg};
-ghost use Rattle.flow.specs.Reach.{joinReach, pieceReach, reachOf};
+ghost use Rattle.flow.specs.Reach.{joinReach, pieceReach, withRows, reachOf};
 use flow::Coordinate;
 use flow::Leg;
 use flow::Reach;
 use image::Edge;
-use rows::Rows;
 use rows::Window;
 
-// The rows of a trunk, where there is one.
-fn trunk_rows(window: Window, has_trunk: bool, y1: usize, x1: usize, bend: usize) -> Rows
-    ensures { λ r. ⌜ r ≡ trunkRows window «has_trunk» y1 x1 bend ⌝ }
+// What is reached with a trunk, where there is one.
+fn trunk_reach(
+    reach: Reach,
+    window: Window,
+    has_trunk: bool,
+    y1: usize,
+    x1: usize,
+    bend: usize,
+) -> Reach
+    ensures { λ r. ⌜ (r ≡ withRows reach (trunkRows window «has_trunk» y1 x1 bend)) × (r .runs ≡ reach .runs) ⌝ }
 {
     if has_trunk {
-        touch::horizontal_rows(window, y1, x1, bend)
+        touch::with_horizontal(reach, window, y1, x1, bend)
     } else {
-        Rows::None
+        reach
     }
 }
 
-// The rows of a crossing: from one row to the other, and none if they are equal.
-fn crossing_rows(window: Window, y1: usize, y2: usize) -> Rows
-    ensures { λ r. ⌜ r ≡ crossingRows window y1 y2 ⌝ }
+// What is reached with a crossing: the rows from one to the other, and none if they are equal.
+fn crossing_reach(reach: Reach, window: Window, y1: usize, y2: usize) -> Reach
+    ensures { λ r. ⌜ (r ≡ withRows reach (crossingRows window y1 y2)) × (r .runs ≡ reach .runs) ⌝ }
 {
     if y1 == y2 {
-        return Rows::None;
+        return reach;
     }
-    window.clip(ground::min(y1, y2), ground::max(y1, y2))
+    touch::with_rows(reach, window.clip(ground::min(y1, y2), ground::max(y1, y2)))
 }
 
 // What is reached with a way that bends once.
@@ -47,10 +53,10 @@ fn bent_reach(
 ) -> Reach
     ensures { λ r. ⌜ (r ≡ bentReach reach window «has_trunk» «strokes_start» bend x1 y1 x2 y2) × (r .runs ≡ reach .runs) ⌝ }
 {
-    let trunk = touch::with_rows(reach, trunk_rows(window, has_trunk, y1, x1, bend));
-    let start = touch::with_rows(trunk, touch::row_if(window, strokes_start, y1));
-    let crossed = touch::with_rows(start, crossing_rows(window, y1, y2));
-    touch::with_rows(crossed, touch::horizontal_rows(window, y2, bend, x2))
+    let trunk = trunk_reach(reach, window, has_trunk, y1, x1, bend);
+    let start = touch::with_row_if(trunk, window, strokes_start, y1);
+    let crossed = crossing_reach(start, window, y1, y2);
+    touch::with_horizontal(crossed, window, y2, bend, x2)
 }
 
 // What is reached with a Direct edge or a Spline.
@@ -60,7 +66,7 @@ pub fn direct_reach(reach: Reach, window: Window, e: Edge) -> Reach
     let row = ground::number(e.from_y);
     let from = ground::number(e.from_x);
     let to = ground::number(e.to_x);
-    touch::with_rows(reach, touch::horizontal_rows(window, row, from, to))
+    touch::with_horizontal(reach, window, row, from, to)
 }
 
 // What is reached with a Corner.
@@ -89,11 +95,11 @@ fn channel_reach(
 ) -> Reach
     ensures { λ r. ⌜ (r ≡ channelReach reach window channel start end x1 y1 x2 y2) × (r .runs ≡ reach .runs) ⌝ }
 {
-    let trunk = touch::with_rows(reach, touch::horizontal_rows(window, y1, x1, start));
-    let out = touch::with_rows(trunk, crossing_rows(window, y1, channel));
-    let side = touch::with_rows(out, touch::horizontal_rows(window, channel, start, end));
-    let back = touch::with_rows(side, crossing_rows(window, channel, y2));
-    touch::with_rows(back, touch::horizontal_rows(window, y2, end, x2))
+    let trunk = touch::with_horizontal(reach, window, y1, x1, start);
+    let out = crossing_reach(trunk, window, y1, channel);
+    let side = touch::with_horizontal(out, window, channel, start, end);
+    let back = crossing_reach(side, window, channel, y2);
+    touch::with_horizontal(back, window, y2, end, x2)
 }
 
 // What is reached with a SideChannel.
@@ -124,11 +130,8 @@ pub fn leg_reach(reach: Reach, window: Window, e: Edge, offset: u32, leg: Leg) -
 {
     let first = leg.first;
     if leg.y1 == leg.y2 {
-        let start = touch::with_rows(reach, touch::row_if(window, !first, leg.y1));
-        return touch::with_rows(
-            start,
-            touch::horizontal_rows(window, leg.y1, leg.x1, leg.x2),
-        );
+        let start = touch::with_row_if(reach, window, !first, leg.y1);
+        return touch::with_horizontal(start, window, leg.y1, leg.x1, leg.x2);
     }
     let corner = x_flow::corner_column(e, offset, leg);
     let Coordinate::At(bend) = corner else {

@@ -1,21 +1,16 @@
 -- `bent_reach` joins what a way reaches that bends once.
 use borrow.Author.Needs.{needs}
-use Rattle.x_reach.specs.Reach.{bentReach}
+use Rattle.x_reach.proofs.Reached.{bent-joined}
 use Rattle.x_reach.proofs.bent_reach.Statement.{statement}
 use Rattle.x_reach.proofs.bent_reach.Tie as tie
 
 returns : tie.Need-returns
-unfolding bentReach
-returns c = (cc, search needs)
+returns c = (search (bent-joined, needs), search needs)
 
 pub bent-reach-spec : {M : Type 1} → statement M
 bent-reach-spec =
     tie.close
     (tie.spec
-    (λ c κs. search needs)
-    (λ c κs. search needs)
-    (λ c κs. search needs)
-    (λ c κs. search needs)
     (λ c κs. search needs)
     (λ c κs. search needs)
     (λ c κs. search needs)

@@ -5,7 +5,7 @@ use Rattle.x_reach.proofs.corner_reach.Statement.{statement}
 use Rattle.x_reach.proofs.corner_reach.Tie as tie
 
 returns : tie.Need-returns
-returns c = (rw corner-reached (cc), search needs)
+returns c = (search (corner-reached, needs), search needs)
 
 pub corner-reach-spec : {M : Type 1} → statement M
 corner-reach-spec =

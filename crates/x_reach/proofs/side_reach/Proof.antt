@@ -5,7 +5,7 @@ use Rattle.x_reach.proofs.side_reach.Statement.{statement}
 use Rattle.x_reach.proofs.side_reach.Tie as tie
 
 returns : tie.Need-returns
-returns c = (rw side-reached (cc), search needs)
+returns c = (search (side-reached, needs), search needs)
 
 pub side-reach-spec : {M : Type 1} → statement M
 side-reach-spec =
