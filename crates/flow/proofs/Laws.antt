@@ -1,16 +1,14 @@
 -- What the code makes of its parts, over plain values: the arms of a corner, the arrows on a line, and the bend of an edge or of a leg.
-use Prim.Native.Nat.{ℕ, _<_}
+use Prim.Native.Nat.{ℕ}
 use mathlib.Core.Path.{_≡_}
 use mathlib.Core.Bool.{Bool, true, false, not, _&&_}
 use lib.Dec.{ltb}
 use Rattle.cell.specs.declared.Weight.{Weight}
-use Rattle.cell.specs.declared.Arms.{Arms}
 use Rattle.cell.specs.declared.Dir.{Dir}
 use Rattle.image.specs.declared.Edge.{Edge}
 use Rattle.flow.specs.declared.Coordinate.{Coordinate}
 use Rattle.flow.specs.declared.Head.{Head}
 use Rattle.flow.specs.declared.Line.{Line}
-use Rattle.flow.specs.declared.Bend.{Bend}
 use Rattle.flow.specs.declared.Leg.{Leg}
 use Rattle.flow.specs.Flow.{along, sourceMarker, targetMarker, headAt, startHead, endHead, lineOf, armIf, corner, cornerBend, legBend}
 

@@ -177,14 +177,26 @@ module _ (reach : Reach) (test : Bool) (more : Rows) where
   unfolding withRows
   with-rows-unless t = rw (t, join-none (reach .rows))
 
--- The pieces of a leg, which are chosen by whether two coordinates of it are equal.
+-- The pieces of a leg, which are chosen by whether two coordinates of it are equal: its own start and its line, or a way that bends.
 
-module _ (window : Window) (reach r : Reach) (a b : ℕ) (straight bent : List Piece) where
-  pub leg-straight : a ≡ b → r ≡ joinReach reach (reachOf window straight) → r ≡ joinReach reach (reachOf window (cond (eqb a b) straight bent))
-  leg-straight h p = rw (eq-eqb a b h) p
+module _ (window : Window) (reach r : Reach) (a b : ℕ) where
+  pub leg-straight :
+      (start : Reach) (one two : Piece) (bent : List Piece) (more rest : Rows) →
+      ((k : Reach) → joinReach k (pieceReach window one) ≡ withRows k more) →
+      ((k : Reach) → joinReach k (pieceReach window two) ≡ withRows k rest) →
+      r ≡ withRows start rest →
+      start ≡ withRows reach more →
+      a ≡ b →
+      r ≡ joinReach reach (reachOf window (cond (eqb a b) (one ∷ two ∷ []) bent))
+  leg-straight start one two bent more rest f g p q h =
+      rw (eq-eqb a b h, ← reach-onto window reach (one ∷ two ∷ []), f reach, g (withRows reach more), ← q) p
 
-  pub leg-bent : (a ≡ b → ⊥) → r ≡ joinReach reach (reachOf window bent) → r ≡ joinReach reach (reachOf window (cond (eqb a b) straight bent))
-  leg-bent h p = rw (ne-eqb a b h) p
+  pub leg-bent :
+      (straight bent : List Piece) →
+      (a ≡ b → ⊥) →
+      r ≡ joinReach reach (reachOf window bent) →
+      r ≡ joinReach reach (reachOf window (cond (eqb a b) straight bent))
+  leg-bent straight bent h p = rw (ne-eqb a b h) p
 
 pub reach-append : (window : Window) (k l : List Piece) → reachOf window (k ++ l) ≡ joinReach (reachOf window k) (reachOf window l)
 unfolding reachOf

@@ -1,9 +1,9 @@
 -- What the pieces of an X flow reach, by their numbers alone.
 use native.Mathlib.Omega.{arith}
-use Prim.Native.Nat.{ℕ, _+_, _-_, _≤_, _<_, min, max}
+use Prim.Native.Nat.{ℕ, _+_, _-_, _<_, min, max}
 use mathlib.Core.Path.{_≡_, refl, sym, _∙_}
 use mathlib.Core.Bool.{Bool, true, false, not, _&&_, _||_}
-use mathlib.Core.List.{List, [], _∷_}
+use mathlib.Core.List.{[], _∷_}
 use lib.Dec.{leb, ltb, eqb}
 use borrow.Author.Tests.{eq-eqb, ne-eqb, le-leb, lt-leb, eqb-true, eqb-false}
 use Rattle.ground.proofs.Order.{by-order, by-three}
@@ -13,7 +13,7 @@ use Rattle.image.specs.declared.Edge.{Edge}
 use Rattle.rows.specs.declared.Rows.{Rows}
 use Rattle.rows.specs.declared.Rows.the-variants as rows
 use Rattle.rows.specs.declared.Window.{Window}
-use Rattle.rows.specs.Window.{joinRows, touchedRows}
+use Rattle.rows.specs.Window.{joinRows}
 use Rattle.rows.specs.Computed.{windowRows}
 use Rattle.rows.proofs.Theorems.{join-none}
 use Rattle.rows.proofs.Windows.{touched-or, touched-same, window-row, window-rows}
@@ -150,7 +150,7 @@ module _ (window : Window) where
         tail-reached s (v .«end_arrow») (v .y2) (v .bend) (v .x2),
       )
 
-  -- So does a line in a channel, and a straight leg.
+  -- So does a line in a channel, and the line of a straight leg.
 
   channel-reached :
       (channel start end : ℕ) (reach : Reach) →
@@ -163,15 +163,6 @@ module _ (window : Window) where
       joinReach reach (pieceReach window (straightLineX e leg)) ≡ withRows reach (horizontalRows window (leg .y1) (leg .x1) (leg .x2))
   unfolding straightLineX lineOf
   line-reached e leg reach = with-horizontal window reach _
-
-  straight-reached :
-      (e : Edge) (leg : Leg) (reach : Reach) →
-      joinReach reach (reachOf window (straightX e leg))
-      ≡ withRows (withRows reach (rowIf window (not (leg .first)) (leg .y1))) (horizontalRows window (leg .y1) (leg .x1) (leg .x2))
-  unfolding straightX
-  straight-reached e leg reach =
-      sym (reach-onto window reach (straightX e leg))
-      ∙ rw (start-reached (e .weight) (not (leg .first)) (leg .x1) (leg .y1) reach, line-reached e leg)
 
   -- What the code finds, from what it calls: with a crossing, a way that bends once, and a channel between two crossings.
 
@@ -277,9 +268,12 @@ module _ (window : Window) where
           start ≡ withRows reach (rowIf window (not (leg .first)) (leg .y1)) →
           leg .y1 ≡ leg .y2 →
           r ≡ joinReach reach (reachOf window (legX e offset leg))
-      unfolding legX
+      unfolding legX straightX
       straight-leg start p q h =
-          leg-straight window reach r (leg .y1) (leg .y2) _ _ h (p ∙ rw q (sym (straight-reached e leg reach)))
+          leg-straight window reach r (leg .y1) (leg .y2) start _ _ _ _ _
+          (start-reached (e .weight) (not (leg .first)) (leg .x1) (leg .y1))
+          (line-reached e leg)
+          p q h
 
       module _ (corner : Coordinate) (is : corner ≡ cornerColumn e offset leg) (h : leg .y1 ≡ leg .y2 → ⊥) where
         pub below-leg : corner ≡ coordinate.Below → r ≡ reach → r ≡ joinReach reach (reachOf window (legX e offset leg))

@@ -1,9 +1,9 @@
 -- What the pieces of a Y flow reach, by their numbers alone.
 use native.Mathlib.Omega.{arith}
-use Prim.Native.Nat.{ℕ, _+_, _≤_, _<_, min, max}
+use Prim.Native.Nat.{ℕ, _+_, min, max}
 use mathlib.Core.Path.{_≡_, refl, sym, _∙_}
 use mathlib.Core.Bool.{Bool, true, false, not, _&&_}
-use mathlib.Core.List.{List, [], _∷_}
+use mathlib.Core.List.{[], _∷_}
 use lib.Dec.{ltb, eqb}
 use borrow.Author.Tests.{eq-eqb, ne-eqb, le-ltb}
 use Rattle.ground.proofs.Order.{by-three}
@@ -120,7 +120,7 @@ module _ (window : Window) where
         tail-reached s (v .«end_arrow») (v .x2) (v .bend) (v .y2),
       )
 
-  -- So does a line in a channel, and a straight leg.
+  -- So does a line in a channel, and the line of a straight leg.
 
   channel-reached :
       (channel start end : ℕ) (reach : Reach) →
@@ -133,15 +133,6 @@ module _ (window : Window) where
       joinReach reach (pieceReach window (straightLineY e leg)) ≡ withRows reach (verticalRows window (leg .y1) (leg .y2))
   unfolding straightLineY lineOf
   line-reached e leg reach = with-vertical window reach _
-
-  straight-reached :
-      (e : Edge) (leg : Leg) (reach : Reach) →
-      joinReach reach (reachOf window (straightY e leg))
-      ≡ withRows (withRows reach (rowIf window (not (leg .first)) (leg .y1))) (verticalRows window (leg .y1) (leg .y2))
-  unfolding straightY
-  straight-reached e leg reach =
-      sym (reach-onto window reach (straightY e leg))
-      ∙ rw (start-reached (e .weight) (not (leg .first)) (leg .x1) (leg .y1) reach, line-reached e leg)
 
   -- What the code finds, from what it calls: with a crossing, a way that bends once, and a channel between two crossings.
 
@@ -236,9 +227,12 @@ module _ (window : Window) where
           start ≡ withRows reach (rowIf window (not (leg .first)) (leg .y1)) →
           leg .x1 ≡ leg .x2 →
           r ≡ joinReach reach (reachOf window (legY e offset leg))
-      unfolding legY
+      unfolding legY straightY
       straight-leg start p q h =
-          leg-straight window reach r (leg .x1) (leg .x2) _ _ h (p ∙ rw q (sym (straight-reached e leg reach)))
+          leg-straight window reach r (leg .x1) (leg .x2) start _ _ _ _ _
+          (start-reached (e .weight) (not (leg .first)) (leg .x1) (leg .y1))
+          (line-reached e leg)
+          p q h
 
       module _ (corner : Coordinate) (is : corner ≡ cornerRow e offset leg) (h : leg .x1 ≡ leg .x2 → ⊥) where
         pub below-leg : corner ≡ coordinate.Below → r ≡ reach → r ≡ joinReach reach (reachOf window (legY e offset leg))
