@@ -5,7 +5,14 @@ use Rattle.x_reach.proofs.bent_reach.Statement.{statement}
 use Rattle.x_reach.proofs.bent_reach.Tie as tie
 
 returns : tie.Need-returns
-returns c = (search (bent-joined, needs), search needs)
+returns c = (
+  bent-joined _ _ _ _ _ _ _ _ _ _ _ _ _
+      (c .with-horizontal .ensures .0)
+      (c .before .crossing-reach .ensures .0)
+      (c .before .before .with-row-if .ensures .0)
+      (search needs),
+  search needs,
+)
 
 pub bent-reach-spec : {M : Type 1} → statement M
 bent-reach-spec =

@@ -5,7 +5,15 @@ use Rattle.x_reach.proofs.channel_reach.Statement.{statement}
 use Rattle.x_reach.proofs.channel_reach.Tie as tie
 
 returns : tie.Need-returns
-returns c = (search (channel-joined, needs), search needs)
+returns c = (
+  channel-joined _ _ _ _ _ _ _ _ _ _ _ _ _ _
+      (c .with-horizontal3 .ensures .0)
+      (c .before .crossing-reach2 .ensures .0)
+      (c .before .before .with-horizontal2 .ensures .0)
+      (c .before .before .before .crossing-reach .ensures .0)
+      (search needs),
+  search needs,
+)
 
 pub channel-reach-spec : {M : Type 1} → statement M
 channel-reach-spec =

@@ -5,7 +5,12 @@ use Rattle.x_reach.proofs.side_reach.Statement.{statement}
 use Rattle.x_reach.proofs.side_reach.Tie as tie
 
 returns : tie.Need-returns
-returns c = (search (side-reached, needs), search needs)
+returns c = (
+  side-reached _ _ _ _ _ _ _ _ _ _ _ _ _ _
+      (c .channel-reach .ensures .0)
+      (search needs) (search needs) (search needs) (search needs) (search needs) (search needs) (search needs),
+  search needs,
+)
 
 pub side-reach-spec : {M : Type 1} → statement M
 side-reach-spec =

@@ -5,7 +5,10 @@ use Rattle.y_reach.proofs.leg_reach.Statement.{statement}
 use Rattle.y_reach.proofs.leg_reach.Tie as tie
 
 returns : tie.Need-returns
-returns c = (search (straight-leg, needs), search needs)
+returns c = (
+  straight-leg _ _ _ _ _ _ _ (c .with-vertical .ensures .0) (c .before .with-row-if .ensures .0) (search needs),
+  search needs,
+)
 
 returns-2 : tie.Need-returns-2
 returns-2 c = (search (below-leg, needs), search needs)
