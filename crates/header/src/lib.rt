@@ -6,7 +6,7 @@ ghost use Rattle.layout.specs.Layout.{headerNodes};
 ghost use Rattle.layout.specs.Tables.{word};
 ghost use Rattle.header.specs.Words.{atMost, clear};
 ghost use Rattle.header.specs.Header.{headerJudged, sizeRules, countRules};
-ghost use Rattle.header.specs.InTurn.{orUnless, orWords, wordsAt, fourRules};
+ghost use Rattle.header.specs.InTurn.{orUnless, orWords, wordsAt, fourRules, fourWithin};
 use ground::Found;
 use ground::or_else;
 use layout::word;
@@ -29,11 +29,29 @@ pub fn at_most(before: Found, image: &[u32], place: usize, limit: u32) -> Found
     or_unless(before, word(image, place) <= limit, place)
 }
 
-// Four numbers in a row with one limit.
+// Whether four numbers in a row keep one limit.
+fn four_within(image: &[u32], at: usize, limit: u32) -> bool
+    requires { ⌜ at < 0x20000000000 ⌝ }
+    ensures { λ r. ⌜ r ≡ fourWithin (wordsAt (now (image .entry)) at) limit ⌝ }
+{
+    if word(image, at) <= limit {
+        if word(image, at + 1) <= limit {
+            if word(image, at + 2) <= limit {
+                return word(image, at + 3) <= limit;
+            }
+        }
+    }
+    false
+}
+
+// Four numbers in a row with one limit. Nearly always all keep it, so that is asked first.
 pub fn four_at_most(before: Found, image: &[u32], at: usize, limit: u32) -> Found
     requires { ⌜ at < 0x20000000000 ⌝ }
     ensures { λ r. ⌜ r ≡ orWords before at 0 (fourRules (wordsAt (now (image .entry)) at) limit) ⌝ }
 {
+    if four_within(image, at, limit) {
+        return before;
+    }
     let one = at_most(before, image, at, limit);
     let two = at_most(one, image, at + 1, limit);
     let three = at_most(two, image, at + 2, limit);

@@ -18,16 +18,16 @@ use Rattle.glyph.specs.Ranges.{rangeBroken}
 use Rattle.glyph.specs.Ranges as glyph
 use Rattle.glyph.proofs.Theorems.{broken-placed}
 use Rattle.layout.specs.declared.Tables.{Tables}
-use Rattle.layout.specs.Layout.{headerSize, headerRuns, rangeSize}
+use Rattle.layout.specs.Layout.{headerSize, headerRuns, edgeFlags, rangeSize, pathStep, paths, pathCorner, pathSideChannel, pathMultiSegment, pathOrthogonal, pathSpline}
 use Rattle.layout.specs.Small.{AllSmall}
-use Rattle.layout.specs.Tables.{word, recordAt, tableEnd, tablesOf, wantedLength}
+use Rattle.layout.specs.Tables.{word, bits, field, recordAt, tableEnd, tablesOf, wantedLength}
 use Rattle.image.specs.declared.Edge.{Edge}
-use Rattle.image.specs.Records.{edgeAt}
+use Rattle.image.specs.Records.{pathOf, edgeAt}
 use Rattle.image.specs.Spans.{tableWords, pointsOf}
 use Rattle.image.proofs.Theorems.{span-length}
 use Rattle.header.specs.Header.{headerJudged}
 use Rattle.fields.specs.Tables.{recordsJudged}
-use Rattle.path.specs.Corners.{cornerBelow}
+use Rattle.path.specs.Corners.{belowOf, cornerBelow}
 use Rattle.elements.specs.Elements.{twiceJudged, orderJudged}
 use Rattle.elements.proofs.Records.{foundFrom, records-again, records-hit, records-done}
 use Rattle.listing.specs.declared.Walk.{Walk}
@@ -87,6 +87,23 @@ pub edge-below :
     (image : List ℕ) (ts : Tables) (k : ℕ) (e : Edge) (points : List ℕ) (below : Bool) →
     e ≡ edgeAt image (ts .edges) k → points ≡ pointsOf image (ts .points) (e .path) → below ≡ cornerBelow e points → below ≡ edgeBelow image ts k
 edge-below image ts k e points below p q s = s ∙ rw (q, p)
+
+-- An edge that is no MultiSegment has no such corner.
+
+no-legs : (number a b c : ℕ) (e : Edge) (points : List ℕ) → (number ≡ pathMultiSegment → ⊥) → false ≡ belowOf (pathOf number a b c) e points
+unfolding pathOf belowOf
+no-legs number a b c e points h =
+    by-bool (eqb number pathCorner) (λ t. rw t)
+    (λ t. by-bool (eqb number pathSideChannel) (λ u. rw (t, u))
+    (λ u. by-bool (eqb number pathOrthogonal) (λ v. rw (t, u, ne-eqb _ _ h, v))
+    (λ v. by-bool (eqb number pathSpline) (λ w. rw (t, u, ne-eqb _ _ h, v, w)) (λ w. rw (t, u, ne-eqb _ _ h, v, w)))))
+
+pub legless-below :
+    (image : List ℕ) (ts : Tables) (k flags number : ℕ) →
+    flags ≡ field image (ts .edges) k edgeFlags → number ≡ bits flags pathStep paths → (number ≡ pathMultiSegment → ⊥) →
+    false ≡ edgeBelow image ts k
+unfolding edgeAt
+legless-below image ts k flags number f n h = no-legs (bits (field image (ts .edges) k edgeFlags) pathStep paths) _ _ _ _ _ (rw (← f, ← n) h)
 
 abbrev pub aboveZero : List ℕ → Tables → ℕ → Bool
 aboveZero image ts k = not (edgeBelow image ts k)
