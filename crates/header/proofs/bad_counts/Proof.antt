@@ -7,7 +7,14 @@ use Rattle.header.proofs.bad_counts.Tie as tie
 
 returns : tie.Need-returns
 unfolding countRules orWords
-returns c = cc
+returns c =
+    rw (
+      c .at-most4 .ensures,
+      c .before .at-most3 .ensures,
+      c .before .before .at-most2 .ensures,
+      c .before .before .before .at-most .ensures,
+      c .before .before .before .before .four-at-most .ensures,
+    )
 
 pub bad-counts-spec : {M : Type 1} → statement M
 bad-counts-spec =

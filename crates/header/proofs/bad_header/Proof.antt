@@ -8,7 +8,7 @@ use Rattle.header.proofs.bad_header.Tie as tie
 
 returns : tie.Need-returns
 unfolding headerJudged sizeRules countRules orWords
-returns c = in-turn _ _ _ _ (cc)
+returns c = in-turn _ _ _ _ (rw (c .bad-counts .ensures, c .before .bad-sizes .ensures))
 
 pub bad-header-spec : {M : Type 1} → statement M
 bad-header-spec = tie.close (tie.spec (λ c κs. search needs) (λ c κs. search needs) returns)

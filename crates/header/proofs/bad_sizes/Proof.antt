@@ -7,7 +7,8 @@ use Rattle.header.proofs.bad_sizes.Tie as tie
 
 returns : tie.Need-returns
 unfolding sizeRules orWords
-returns c = cc
+returns c =
+    rw (c .clear .ensures, c .before .at-most3 .ensures, c .before .before .at-most2 .ensures, c .before .before .before .at-most .ensures)
 
 pub bad-sizes-spec : {M : Type 1} → statement M
 bad-sizes-spec =

@@ -8,7 +8,14 @@ use Rattle.header.proofs.four_at_most.Tie as tie
 
 returns-2 : tie.Need-returns-2
 unfolding orWords
-returns-2 c = rw add-zero (cc)
+returns-2 c =
+    rw (
+      add-zero,
+      c .at-most4 .ensures,
+      c .before .at-most3 .ensures,
+      c .before .before .at-most2 .ensures,
+      c .before .before .before .at-most .ensures,
+    )
 
 pub four-at-most-spec : {M : Type 1} → statement M
 four-at-most-spec =
