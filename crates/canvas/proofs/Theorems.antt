@@ -8,13 +8,13 @@ use lib.Dec.{eqb, ltb}
 use lib.ListN.{length, getD, set, length-set, List·getD-eq-default}
 use lib.Seq.{set-out, getD-set-same, getD-set-other}
 use borrow.Author.Tests.{le-ltb}
+use Rattle.ground.proofs.Each.{cond-holds}
 use Rattle.ground.proofs.Order.{by-order, by-three}
 use Rattle.cell.specs.declared.Arms.{Arms}
 use Rattle.cell.specs.declared.MarkerKind.{MarkerKind}
 use Rattle.cell.specs.declared.Dir.{Dir}
 use Rattle.cell.specs.declared.Parts.the-variants.{Text, Continuation}
 use Rattle.cell.specs.OneCell.{pack, readText, read, Packed, paintedText}
-use Rattle.cell.proofs.Laws.{cond-holds}
 use Rattle.cell.proofs.Theorems.{empty-packed, continuation-packed, stroke-packed, marker-packed, text-packed}
 use Rattle.glyph.specs.Width.{bisect, widthOf}
 use Rattle.canvas.specs.Row.{space, isWideLead, isContinuation, emptyContinuation, blankLead}

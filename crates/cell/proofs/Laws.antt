@@ -8,6 +8,7 @@ use lib.Dec.{eqb}
 use borrow.Author.Tests.{le-leb, lt-leb}
 use types.Run.{OneOf, miss}
 use denote.Enum.Declared.{tagOf}
+use Rattle.ground.proofs.Each.{cond-holds}
 use Rattle.cell.specs.declared.Weight.{Weight}
 use Rattle.cell.specs.declared.Weight.the-variants as weight
 use Rattle.cell.specs.declared.MarkerKind.{MarkerKind}
@@ -219,11 +220,6 @@ read-text ch w h e =
     rw (f .0, f .1, f .2)
 
 -- A stroke or a marker on valid parts leaves valid parts.
-
--- what holds of both holds of the one that a test picks
-pub cond-holds : {A : Type 0} (P : A → Type 0) (t : Bool) {a b : A} → P a → P b → P (cond t a b)
-cond-holds P true p q = p
-cond-holds P false p q = q
 
 double-valid : (new : Arms) (k : MarkerKind) (d : Dir) → Valid (doubleOnMarker new k d)
 unfolding Valid doubleOnMarker

@@ -10,6 +10,8 @@ use lib.Dec.{eqb, ltb, leb}
 use lib.ListN.{length, getD, take, length-take}
 use lib.Seq.{length-take-le}
 use borrow.Author.Tests.{not-true, ltb-false, leb-false, lt-ltb, le-ltb, le-leb, lt-leb}
+use Rattle.layout.specs.Layout.{rangeSize}
+use Rattle.layout.specs.Layout as layout
 use Rattle.glyph.specs.Width.{InOrder, bisect, middle, widthOf, firstOf, lastOf, rangeWidth, rangeCount}
 use Rattle.glyph.specs.Ranges.{holds, holdsFixed, notAbove, rangeBroken, judgedRange, judgedRanges, firstBroken, rangesGood, placed}
 use Rattle.glyph.specs.Ranges.{Fixed, space, quote, opening, closing, RangeGood, WidthsRight}
@@ -24,7 +26,7 @@ use Rattle.ground.proofs.Order.{by-order, by-three, cond-bound}
 
 range-bound : (t : List ℕ) (k : ℕ) → rangeWidth t k ≤ 2
 range-bound t k =
-    let word = getD t (3 * k + 2) 0 in
+    let word = getD t (rangeSize * k + layout.rangeWidth) 0 in
     cond-bound (eqb word 0) 0 _ 2 (omega arith) (cond-bound (eqb word 2) 2 1 2 (omega arith) (omega arith))
 
 bisect-bound : (f : ℕ) (t : List ℕ) (v low high : ℕ) → bisect f t v low high ≤ 2

@@ -4,24 +4,26 @@ use mathlib.Core.Bool.{Bool, true, false, cond}
 use mathlib.Core.List.{List}
 use lib.ListN.{length, getD}
 use lib.Dec.{eqb, ltb}
+use Rattle.layout.specs.Layout.{rangeLast, rangeSize}
+use Rattle.layout.specs.Layout as layout
 
 abbrev pub rangeCount : List ℕ → ℕ
-rangeCount ranges = length ranges / 3
+rangeCount ranges = length ranges / rangeSize
 
 -- the words of range k
 
 abbrev pub firstOf : List ℕ → ℕ → ℕ
-firstOf ranges k = getD ranges (3 * k) 0
+firstOf ranges k = getD ranges (rangeSize * k) 0
 
 abbrev pub lastOf : List ℕ → ℕ → ℕ
-lastOf ranges k = getD ranges (3 * k + 1) 0
+lastOf ranges k = getD ranges (rangeSize * k + rangeLast) 0
 
 -- "width 0 or 2; all others 1"
 abbrev pub asWidth : ℕ → ℕ
 asWidth word = cond (eqb word 0) 0 (cond (eqb word 2) 2 1)
 
 abbrev pub rangeWidth : List ℕ → ℕ → ℕ
-rangeWidth ranges k = asWidth (getD ranges (3 * k + 2) 0)
+rangeWidth ranges k = asWidth (getD ranges (rangeSize * k + layout.rangeWidth) 0)
 
 -- The range rule's order (code 5): no range has "first > last", nor "first not above the last before it".
 pub record InOrder (ranges : List ℕ) : Type 0 where

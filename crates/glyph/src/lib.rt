@@ -29,11 +29,11 @@ fn range_at(ranges: &[u32], k: usize) -> Range
     requires { ⌜ k < rangeCount (now ranges) ⌝ }
     ensures { λ r. ⌜ (r .first ≡ firstOf (now (ranges .entry)) k) × (r .last ≡ lastOf (now (ranges .entry)) k) × (r .width ≡ rangeWidth (now (ranges .entry)) k) × (r .width ≤ 2) ⌝ }
 {
-    let at = 3 * k;
+    let at = layout::RANGE_SIZE * k;
     Range {
         first: ranges[at],
-        last: ranges[at + 1],
-        width: as_width(ranges[at + 2]),
+        last: ranges[at + layout::RANGE_LAST],
+        width: as_width(ranges[at + layout::RANGE_WIDTH]),
     }
 }
 
@@ -42,7 +42,7 @@ pub fn char_width(ranges: &[u32], value: u32) -> u32
     ensures { λ r. ⌜ (r ≡ widthOf (now (ranges .entry)) value) × (r ≤ 2) ⌝ }
 {
     let mut low: usize = 0;
-    let mut high: usize = ranges.len() / 3;
+    let mut high: usize = ranges.len() / layout::RANGE_SIZE;
     while low < high {
         let middle = low + (high - low) / 2;
         let range = range_at(ranges, middle);
@@ -79,15 +79,17 @@ fn not_above(ranges: &[u32], k: usize) -> bool
     ensures { λ r. ⌜ r ≡ notAbove (now (ranges .entry)) k ⌝ }
 {
     let before = ground::minus(k, 1);
-    (0 < k) & (ranges[3 * k] <= ranges[3 * before + 1])
+    let first = ranges[layout::RANGE_SIZE * k];
+    let last_before = ranges[layout::RANGE_SIZE * before + layout::RANGE_LAST];
+    (0 < k) & (first <= last_before)
 }
 
 fn range_broken(ranges: &[u32], k: usize) -> bool
     requires { ⌜ k < rangeCount (now ranges) ⌝ }
     ensures { λ r. ⌜ r ≡ rangeBroken (now (ranges .entry)) k ⌝ }
 {
-    let first = ranges[3 * k];
-    let last = ranges[3 * k + 1];
+    let first = ranges[layout::RANGE_SIZE * k];
+    let last = ranges[layout::RANGE_SIZE * k + layout::RANGE_LAST];
     (last < first) | not_above(ranges, k) | holds_fixed(first, last)
 }
 
@@ -95,7 +97,7 @@ fn range_broken(ranges: &[u32], k: usize) -> bool
 pub fn first_broken(ranges: &[u32]) -> Found
     ensures { λ r. ⌜ r ≡ firstBroken (now (ranges .entry)) ⌝ }
 {
-    let count = ranges.len() / 3;
+    let count = ranges.len() / layout::RANGE_SIZE;
     let mut k: usize = 0;
     while k < count {
         if range_broken(ranges, k) {

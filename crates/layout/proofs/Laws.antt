@@ -3,7 +3,7 @@ use Prim.Native.Nat.{ℕ, _*_, _≤_, _<_}
 use native.Mathlib.Nat.{mul-le-mul, mul-le-mul-right}
 use native.Mathlib.Omega.{arith}
 use mathlib.Core.Path.{_≡_, refl}
-use mathlib.Core.Bool.{Bool, true, false, _&&_}
+use mathlib.Core.Bool.{Bool, true, false, _&&_, and-false}
 use mathlib.Core.List.{List}
 use borrow.Author.Tests.{lt-ltb, le-ltb}
 use Rattle.layout.specs.declared.Table.{Table}
@@ -67,10 +67,6 @@ tables-follow image nodes edges subgraphs labels elements points glyphs ranges f
         ranges = record { start = omega arith; count = omega arith; size = omega arith };
       },
     )
-
-and-false : (test : Bool) → test && false ≡ false
-and-false true = refl
-and-false false = refl
 
 -- a word of the header
 pub in-header : (ts : Tables) (place : ℕ) → place < headerSize → Header place ≡ fieldAt ts place

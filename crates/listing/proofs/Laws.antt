@@ -40,7 +40,7 @@ use Rattle.elements.specs.Elements.{firstRow, lastRow, lister, listing}
 use Rattle.elements.specs.Slots.{slotOf, slotListing, Held}
 use Rattle.elements.proofs.Records.{foundFrom, records-whole, records-again, records-hit, records-done}
 use Rattle.listing.specs.declared.Walk.{Walk}
-use Rattle.listing.proofs.Few.{edge-few}
+use Rattle.path.proofs.Few.{edge-few}
 use Rattle.listing.specs.Listing.{sheetOf, rangesOf, labelGlyphs, thingTouches, holdsRow, wellListed, thingsJudged, listedJudged, edgeRunsAt, total, runCount}
 use Rattle.listing.specs.Computed.{noRows, lacks, slotLacks, Bracket, Touched, Ready, EdgeReach, Walked}
 

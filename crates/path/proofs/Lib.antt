@@ -1,4 +1,5 @@
 -- What is shown of the way of an edge: the laws that the functions' proofs cite, and the theorems.
+pub mod Few
 pub mod Laws
 pub mod Multi
 pub mod Theorems

@@ -1,7 +1,7 @@
 -- What it means that a word keeps its rule: one small law for each kind of rule.
 use native.Mathlib.Omega.{arith}
 use Prim.Native.Nat.{ℕ, _≤_}
-use mathlib.Core.Bool.{Bool, true, false, cond, _||_}
+use mathlib.Core.Bool.{Bool, true, false, cond, _||_, or-true}
 use mathlib.Core.Logic.{inl, inr}
 use mathlib.Core.Path.{_≡_, refl}
 use lib.Dec.{leb, ltb, eqb}
@@ -120,10 +120,6 @@ kept-count glyphs flags start count g =
     true-choice (flag flags labelPresent) _ _ (λ e. refl) (λ e. eq-eqb _ _ (g .absent e .1))
 
 -- "a Unicode scalar value", and "width 0 or 2"
-
-or-true : (p : Bool) → p || true ≡ true
-or-true true = refl
-or-true false = refl
 
 pub scalar-kept : (n : ℕ) → scalarGood n ≡ true → Scalar n
 scalar-kept n h =

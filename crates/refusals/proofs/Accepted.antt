@@ -1,7 +1,7 @@
 -- Each rule by itself: it finds nothing exactly where the image keeps it.
 use native.Mathlib.Omega.{arith}
 use Prim.Native.Nat.{ℕ, _+_, _*_, _/_, _≤_, _<_}
-use mathlib.Core.Bool.{Bool, true, false, not, _&&_}
+use mathlib.Core.Bool.{Bool, true, false, not, _&&_, and-false}
 use mathlib.Core.List.{List, [], _∷_}
 use mathlib.Core.Logic.{_↔_}
 use mathlib.Core.Path.{_≡_, refl, sym, _∙_}
@@ -96,10 +96,6 @@ ranges-iff image h =
 bent-iff : (a b : ℕ) (at : Coordinate) → (not (eqb a b) && isBelow at ≡ false) ↔ ((a ≡ b → ⊥) → at ≡ Below → ⊥)
 unfolding isBelow
 bent-iff a b (At n) = (λ h p q. let z : _≡_ {A = ℕ} 0 1 = cc in omega arith, λ h. and-false (not (eqb a b)))
-  where
-    and-false : (t : Bool) → t && false ≡ false
-    and-false true = refl
-    and-false false = refl
 bent-iff a b Below = (
   λ h p q. clash (rw (ne-eqb a b p)) h,
   λ h. by-bool (eqb a b) (λ t. rw t) (λ t. absurd (h (λ e. clash (eq-eqb a b e) t) refl)),

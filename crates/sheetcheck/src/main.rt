@@ -225,21 +225,21 @@ fn explain_runs(image: &[u32], ts: Tables)
 fn explain_tables(image: &[u32], code: u32, place: usize) {
     let ts = layout::tables_of(image);
     match code {
-        4 => explain_field(image, ts, place),
-        5 => explain_range(image, ts, place),
-        6 => explain_corner(ts, place),
-        7 => explain_twice(image, ts, place),
-        8 => explain_order(image, ts, place),
-        9 => explain_listing(image, ts, place),
+        refusals::BAD_FIELD => explain_field(image, ts, place),
+        refusals::BAD_RANGE => explain_range(image, ts, place),
+        refusals::CORNER_BELOW_ZERO => explain_corner(ts, place),
+        refusals::LISTED_TWICE => explain_twice(image, ts, place),
+        refusals::OUT_OF_ORDER => explain_order(image, ts, place),
+        refusals::NOT_LISTED => explain_listing(image, ts, place),
         _ => explain_runs(image, ts),
     }
 }
 
 fn explain(image: &[u32], code: u32, place: usize) {
     match code {
-        1 => explain_short(image),
-        2 => explain_header(image, place),
-        3 => explain_length(image, place),
+        refusals::TOO_SHORT => explain_short(image),
+        refusals::OVER_LIMIT => explain_header(image, place),
+        refusals::WRONG_LENGTH => explain_length(image, place),
         _ => explain_tables(image, code, place),
     }
 }
@@ -273,9 +273,20 @@ fn report_input(bytes: &mut [u8], words: &mut [u32]) {
     report(&words[..count]);
 }
 
-// The header and every table at its limit: 12 + 1,024 * 9 + 1,024 * 12 + 1,024 * 8 + 1,024 * 4 + 3,072 * 4 + 8,192 * 2 + 16,384 + 1,024 * 3 words.
+// The words of nodes, edges, subgraphs and placed labels, each as many as there may be.
+const THING_WORDS: usize = layout::MAX_THINGS as usize
+    * (layout::NODE_SIZE + layout::EDGE_SIZE + layout::SUBGRAPH_SIZE + layout::LABEL_SIZE);
+
+// The words of the header and of every table at its limit: 81,932.
+const MOST_WORDS: usize = layout::HEADER_SIZE
+    + THING_WORDS
+    + layout::MAX_ELEMENTS as usize * layout::ELEMENT_SIZE
+    + layout::MAX_POINTS as usize * layout::POINT_SIZE
+    + layout::MAX_GLYPHS as usize * layout::GLYPH_SIZE
+    + layout::MAX_RANGES as usize * layout::RANGE_SIZE;
+
 fn main() {
-    let mut bytes = [0u8; 327729];
-    let mut words = [0u32; 81932];
+    let mut bytes = [0u8; 4 * MOST_WORDS + 1];
+    let mut words = [0u32; MOST_WORDS];
     report_input(&mut bytes, &mut words);
 }

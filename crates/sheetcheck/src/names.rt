@@ -24,11 +24,13 @@ pub fn header_field(field: usize) {
 
 pub fn header_rule(field: usize) {
     match field {
-        1 => say::text(b"0 to 32767"),
-        2 | 10 => say::text(b"0 to 16384"),
-        3 => say::text(b"bits 31 (label policy) and 30 (show dummies); the rest are 0"),
-        8 => say::text(b"0 to 3072"),
-        9 => say::text(b"0 to 8192"),
+        layout::HEADER_HEIGHT => say::text(b"0 to 32767"),
+        layout::HEADER_RUNS | layout::HEADER_GLYPHS => say::text(b"0 to 16384"),
+        layout::HEADER_FLAGS => say::text(
+            b"bits 31 (label policy) and 30 (show dummies); the rest are 0",
+        ),
+        layout::HEADER_ELEMENTS => say::text(b"0 to 3072"),
+        layout::HEADER_POINTS => say::text(b"0 to 8192"),
         _ => say::text(b"0 to 1024"),
     }
 }
@@ -65,60 +67,68 @@ fn label_span() {
 
 fn node_rule(field: usize) {
     match field {
-        4 => label_span(),
-        6 => say::text(b"kind in bits 31 and 30, self-loop in bit 29; the rest are 0"),
-        7 | 8 => say::text(b"0 to 32767 with the self-loop bit, 0 without it"),
+        layout::NODE_LABEL_START => label_span(),
+        layout::NODE_FLAGS => say::text(
+            b"kind in bits 31 and 30, self-loop in bit 29; the rest are 0",
+        ),
+        layout::NODE_LOOP_X | layout::NODE_LOOP_Y => say::text(
+            b"0 to 32767 with the self-loop bit, 0 without it",
+        ),
         _ => within(),
     }
 }
 
 fn edge_rule(field: usize) {
     match field {
-        4 => say::text(
+        layout::EDGE_FLAGS => say::text(
             b"path 0 to 5 in bits 31 to 29, weight 1 to 3 in bits 24 and 23, flags down to bit 22; the rest are 0",
         ),
-        5 => say::text(
+        layout::EDGE_A => say::text(
             b"Corner and SideChannel: 0 to 32767; MultiSegment and Orthogonal: a first point whose sum with b is at most the point count; else 0",
         ),
-        6 => say::text(
+        layout::EDGE_B => say::text(
             b"SideChannel: 0 to 32767; MultiSegment and Orthogonal: how many points; else 0",
         ),
-        7 => say::text(b"SideChannel and MultiSegment: 0 to 32767; else 0"),
-        8 => say::text(
+        layout::EDGE_C => say::text(b"SideChannel and MultiSegment: 0 to 32767; else 0"),
+        layout::EDGE_LABEL_START => say::text(
             b"with the label bit a start whose sum with the count is at most the glyph count, 0 without it",
         ),
-        9 => say::text(b"any number with the label bit, 0 without it"),
+        layout::EDGE_LABEL_COUNT => say::text(b"any number with the label bit, 0 without it"),
         _ => within(),
     }
 }
 
 fn subgraph_rule(field: usize) {
     match field {
-        4 => label_span(),
-        6 => say::text(b"border in bits 31 and 30, label position in bit 29; the rest are 0"),
+        layout::SUBGRAPH_LABEL_START => label_span(),
+        layout::SUBGRAPH_FLAGS => say::text(
+            b"border in bits 31 and 30, label position in bit 29; the rest are 0",
+        ),
         _ => within(),
     }
 }
 
 fn placed_label_rule(field: usize) {
     match field {
-        0 => say::text(b"an edge's number, below the edge count"),
-        3 => say::text(b"placeable in bit 31, row has node in bit 30; the rest are 0"),
+        layout::LABEL_EDGE => say::text(b"an edge's number, below the edge count"),
+        layout::LABEL_FLAGS => say::text(
+            b"placeable in bit 31, row has node in bit 30; the rest are 0",
+        ),
         _ => within(),
     }
 }
 
 fn element_rule(field: usize) {
     match field {
-        0 => say::text(b"0 node, 1 edge, 2 subgraph"),
-        1 => say::text(b"a number below the count of that kind"),
+        layout::ELEMENT_KIND => say::text(b"0 node, 1 edge, 2 subgraph"),
+        layout::ELEMENT_INDEX => say::text(b"a number below the count of that kind"),
         _ => within(),
     }
 }
 
 fn range_rule(field: usize) {
     match field {
-        2 => say::text(b"0 or 2"),
+        layout::RANGE_WIDTH => say::text(b"0 or 2"),
         _ => say::text(b"0 to 1114111 (10FFFF)"),
     }
 }

@@ -20,7 +20,7 @@ use Rattle.image.specs.declared.Path.{Path}
 use Rattle.image.specs.declared.Path.the-variants.{Direct, Corner, SideChannel, MultiSegment, Orthogonal, Spline}
 use Rattle.image.specs.declared.Point.{Point}
 use Rattle.image.specs.declared.Span.{Span}
-use Rattle.image.specs.Spans.{spanWords, pathSpan, pointsOf}
+use Rattle.image.specs.Spans.{spanWords, pathSpan, pointsOf, pointCount}
 use Rattle.image.proofs.Theorems.{span-length}
 use Rattle.rows.specs.declared.Window.{Window}
 use Rattle.rows.specs.Window.{inWindow}
@@ -32,11 +32,10 @@ use Rattle.flow.specs.declared.Piece.the-variants.{Nothing, Vertical, Horizonta
 use Rattle.flow.specs.Pieces.{pieceRunsIn, runsIn}
 use Rattle.y_flow.specs.YFlow.{bentY, cornerY, sideY, straightY, cornerRow, crossingY, legY}
 use Rattle.x_flow.specs.XFlow.{bentX, cornerX, sideX, straightX, cornerColumn, crossingX, legX}
-use Rattle.image.specs.Spans.{pointCount}
 use Rattle.orthogonal.specs.Points.{source, pathPoint, samePoint, stopsAfter, stops}
 use Rattle.orthogonal.specs.Orthogonal.{legPieces, piecesAlong}
 use Rattle.path.specs.Pieces.{directOn, cornerOn, sideOn, legOn, multiPieces, piecesOf}
 use Rattle.path.specs.Touched.{edgeRuns}
 
 -- a piece is at most one run, so that there are no more runs than pieces
 
