@@ -20,7 +20,8 @@ use Rattle.cell.specs.declared.Parts.{Parts}
 use Rattle.cell.specs.declared.Parts.the-variants.{Empty, Text, Continuation, Stroke, Marker}
 use Rattle.cell.specs.OneCell.{weightNumber, markerNumber, dirNumber, weightOf, markerOf, dirOf}
 use Rattle.cell.specs.OneCell.{packArms, packMarker, pack, readArms, readText, readMarker, read, Valid}
-use Rattle.cell.specs.OneCell.{heavier, hasDouble, doubleOnMarker, doubleOn, stroked, marked}
+use Rattle.cell.specs.OneCell.{heavier, hasDouble, doubleOnMarker, stroked, marked}
+use Rattle.cell.specs.Computed.{doubleOn}
 use Rattle.cell.proofs.Parts.{the-type}
 use Rattle.cell.proofs.MarkerKind as markerKind
 

@@ -145,14 +145,6 @@ doubleOnMarker new Arrow dir = Stroke (heavierArms (stem dir) new)
 doubleOnMarker new SelfLoop dir = Stroke new
 doubleOnMarker new Dummy dir = Stroke new
 
--- the same on any parts: all but a marker are replaced
-unfoldable pub doubleOn : Parts → Arms → Parts
-doubleOn Empty new = Stroke new
-doubleOn (Text ch) new = Stroke new
-doubleOn Continuation new = Stroke new
-doubleOn (Stroke old) new = Stroke new
-doubleOn (Marker kind dir dashed) new = doubleOnMarker new kind dir
-
 -- "A stroke on a stroke takes the greater weight per arm; on empty, itself. On text or a marker it does nothing without a Double arm; with one it replaces text .."
 unfoldable pub stroked : Parts → Arms → Parts
 stroked Empty new = Stroke new

@@ -3,7 +3,8 @@ ghost use mathlib.Core.Path.{_≡_};
 ghost use Prim.Native.Nat.{_<_, _≤_};
 ghost use Rattle.cell.specs.OneCell.{weightNumber, markerNumber, dirNumber, weightOf, markerOf, dirOf};
 ghost use Rattle.cell.specs.OneCell.{vertical, horizontal, packArms, packMarker, pack, readArms, readText, readMarker, read};
-ghost use Rattle.cell.specs.OneCell.{heavier, heavierArms, isDouble, hasDouble, stem, doubleOn};
+ghost use Rattle.cell.specs.OneCell.{heavier, heavierArms, isDouble, hasDouble, stem};
+ghost use Rattle.cell.specs.Computed.{doubleOn};
 ghost use Rattle.cell.specs.OneCell.{stroked, marked, paintedStroke, paintedMarker, paintedText};
 
 // The weight of one arm of a stroke.

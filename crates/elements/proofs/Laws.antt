@@ -18,7 +18,7 @@ use Rattle.ground.proofs.Each.{by-bool}
 use Rattle.ground.proofs.First.{or-assoc, or-none}
 use Rattle.ground.proofs.Order.{by-three}
 use Rattle.layout.specs.declared.Tables.{Tables}
-use Rattle.layout.specs.Layout.{maxThings}
+use Rattle.layout.specs.Layout.{elementKinds, maxThings}
 use Rattle.layout.specs.Tables.{recordAt}
 use Rattle.elements.specs.Elements.{kindOf, indexOf, firstRow, lastRow, names, lister, listedBefore, twiceJudged, rowsBroken, ElementsGood}
 use Rattle.elements.specs.Slots.{slotCount, slotOf, elementSlot, slotListing, Held, Listed}
@@ -95,7 +95,7 @@ module _ (image : List ℕ) (ts : Tables) (k word : ℕ)
 module _ (image : List ℕ) (ts : Tables) (good : ElementsGood image ts) (slots : List ℕ) (k : ℕ) (held : Held image ts slots k) where
   -- the listing of another thing stays
   held-other :
-      (kind index : ℕ) → kind ≤ 2 → index < maxThings →
+      (kind index : ℕ) → kind < elementKinds → index < maxThings →
       (slotOf kind index ≡ elementSlot image ts k → ⊥) →
       slotListing (getD (set slots (elementSlot image ts k) (k + 1)) (slotOf kind index) 0) ≡ lister image ts kind index (k + 1)
   held-other kind index p q other =

@@ -8,11 +8,11 @@ use Rattle.ground.specs.Judged.{firstBad}
 use Rattle.ground.specs.declared.Found.{Found}
 use Rattle.ground.specs.declared.Found.the-variants as found
 use Rattle.layout.specs.declared.Tables.{Tables}
-use Rattle.layout.specs.Layout.{maxThings}
+use Rattle.layout.specs.Layout.{elementKinds, maxThings}
 use Rattle.elements.specs.Elements.{kindOf, indexOf, lister, twiceJudged}
 
 abbrev pub slotCount : ℕ
-slotCount = 3 * maxThings
+slotCount = elementKinds * maxThings
 
 abbrev pub slotOf : ℕ → ℕ → ℕ
 slotOf kind index = maxThings * kind + index
@@ -28,7 +28,7 @@ slotListing (suc k) = found.At k
 -- each slot says which of the first so many elements lists its thing
 abbrev pub Held : List ℕ → Tables → List ℕ → ℕ → Type 0
 Held image ts slots count =
-    (kind index : ℕ) → kind ≤ 2 → index < maxThings →
+    (kind index : ℕ) → kind < elementKinds → index < maxThings →
     slotListing (getD slots (slotOf kind index) 0) ≡ lister image ts kind index count
 
 -- what the walk finds, and leaves in the slots where it finds nothing

@@ -15,8 +15,8 @@ use layout::ELEMENT_LAST_ROW;
 use layout::Tables;
 use layout::field;
 
-// How many slots there are: a word for each thing, of which each of three kinds has at most so many.
-pub const SLOT_COUNT: usize = 3 * THINGS;
+// How many slots there are: a word for each thing, of which each kind has at most so many.
+pub const SLOT_COUNT: usize = layout::ELEMENT_KINDS * THINGS;
 
 // How many slots each kind has.
 const THINGS: usize = layout::MAX_THINGS as usize;

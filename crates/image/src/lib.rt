@@ -3,7 +3,7 @@
 ghost use mathlib.Core.Path.{_≡_};
 ghost use Prim.Native.Nat.{_+_, _*_, _/_, _≤_, _<_};
 ghost use lib.ListN.{length};
-ghost use Rattle.layout.specs.Layout.{pointSize};
+ghost use Rattle.layout.specs.Layout.{pointSize, elementKinds};
 ghost use Rattle.layout.specs.Tables.{bits, flag};
 ghost use Rattle.layout.specs.Small.{Small};
 ghost use Rattle.layout.specs.Layout.{avoidNodeRows, nodeKindStep, nodeKinds, selfLoop, pathStep, paths, flowX, labelPresent, insideBottom};
@@ -492,7 +492,7 @@ impl ElementKind {
 }
 
 pub fn element_kind_number(kind: ElementKind) -> u32
-    ensures { λ r. ⌜ (r ≡ elementKindNumber kind) × (r ≤ 2) ⌝ }
+    ensures { λ r. ⌜ (r ≡ elementKindNumber kind) × (r < elementKinds) ⌝ }
 {
     match kind {
         ElementKind::Node => 0,

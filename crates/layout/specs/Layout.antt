@@ -223,6 +223,10 @@ elementLastRow = 3
 abbrev pub elementSize : ℕ
 elementSize = 4
 
+-- how many kinds there are: "0 Node, 1 Edge, 2 Subgraph"
+abbrev pub elementKinds : ℕ
+elementKinds = 3
+
 -- "point, 2: x, y. Glyph, 1"
 
 abbrev pub pointX : ℕ

@@ -153,6 +153,9 @@ pub const ELEMENT_LAST_ROW: usize = 3;
 
 pub const ELEMENT_SIZE: usize = 4;
 
+// how many kinds there are: "0 Node, 1 Edge, 2 Subgraph"
+pub const ELEMENT_KINDS: usize = 3;
+
 // "point, 2: x, y. Glyph, 1"
 pub const POINT_X: usize = 0;
 

@@ -114,7 +114,7 @@ module _ (image : List ℕ) (good : HeaderGood image) where
   elements-good records =
       let ts = tablesOf image in
       record {
-        kind = λ k h. records .elements k h .kind;
+        kind = λ k h. omega (arith, records .elements k h .kind);
         index = λ k h.
             let kind = elementKindOf (field image (ts .elements) k elementKind) in
             omega (arith, records .elements k h .index, thing-count kind ts, things-few kind);

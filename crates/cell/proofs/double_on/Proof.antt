@@ -1,6 +1,7 @@
 -- `double_on` lays a stroke with a Double arm on text or a marker: an Arrow becomes a stem and merges, all others are replaced.
 use borrow.Author.Needs.{needs}
-use Rattle.cell.specs.OneCell.{doubleOn, doubleOnMarker}
+use Rattle.cell.specs.OneCell.{doubleOnMarker}
+use Rattle.cell.specs.Computed.{doubleOn}
 use Rattle.cell.proofs.Laws.{other-kind, no-marker}
 use Rattle.cell.proofs.double_on.Statement.{statement}
 use Rattle.cell.proofs.double_on.Tie as tie
