@@ -1,6 +1,6 @@
 -- Laws over plain values, which the functions' proofs and the theorems cite.
 use Prim.Native.Nat.{ℕ, _+_, _*_, _-_, _≤_, _<_}
-use native.Mathlib.Nat.{add-mul}
+use native.Mathlib.Nat.{add-assoc, add-mul}
 use native.Mathlib.Omega.{arith}
 use mathlib.Core.Path.{_≡_, refl}
 use mathlib.Core.Bool.{Bool, true, false, and-false}
@@ -12,7 +12,7 @@ use denote.Enum.Declared.{tagOf}
 use Rattle.layout.specs.declared.Table.{Table}
 use Rattle.layout.specs.Layout.{avoidNodeRows, showDummies, nodeKindStep, nodeKinds, selfLoop, pathStep, paths, flowX, reversed, startMarker, endMarker}
 use Rattle.layout.specs.Layout.{weightStep, weights, labelPresent, borderStep, borders, insideBottom, placeable, rowHasNode}
-use Rattle.layout.specs.Tables.{tableEnd, recordAt, header, bits, flag, field}
+use Rattle.layout.specs.Tables.{tableEnd, recordAt, header, bits, flag, word, field}
 use Rattle.layout.proofs.Laws.{record-inside}
 use Rattle.cell.specs.declared.Weight.{Weight}
 use Rattle.cell.specs.OneCell.{weightOf}
@@ -113,6 +113,22 @@ pub four-of :
     record { first = first; second = second; third = third; fourth = fourth } ≡ fourAt image table k from
 unfolding fourAt
 four-of image table k from first second third fourth e1 e2 e3 e4 = rw (e1, e2, e3, e4)
+
+-- the same of words that are all there
+pub four-there :
+    (image : List ℕ) (table : Table) (k from start : ℕ) →
+    start ≡ recordAt table k →
+    record {
+      first = word image (start + from);
+      second = word image (start + from + 1);
+      third = word image (start + from + 2);
+      fourth = word image (start + from + 3);
+    }
+    ≡ fourAt image table k from
+unfolding fourAt
+four-there image table k from start e =
+    let at = recordAt table k in
+    rw (e, add-assoc at from 1, add-assoc at from 2, add-assoc at from 3)
 
 pub header-of :
     (image : List ℕ) (words : Four) (policy : LabelPolicy) (dummies : Bool) →

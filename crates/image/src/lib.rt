@@ -51,6 +51,16 @@ fn four_at(image: &[u32], table: Table, k: usize, from: usize) -> Four
     requires { ⌜ Small table × (k < 4294967296) × (from ≤ 12) ⌝ }
     ensures { λ r. ⌜ r ≡ fourAt (now (image .entry)) table k from ⌝ }
 {
+    let at = layout::record_at(table, k) + from;
+    // nearly always all four are there, so that is asked first
+    if at + 3 < image.len() {
+        return Four {
+            first: image[at],
+            second: image[at + 1],
+            third: image[at + 2],
+            fourth: image[at + 3],
+        };
+    }
     Four {
         first: field(image, table, k, from),
         second: field(image, table, k, from + 1),
