@@ -45,7 +45,9 @@ fn edge_reach(image: &[u32], ts: Tables, sheet: Window, k: usize) -> Reach
     requires { ⌜ AllSmall ts × (k < 4294967296) × (sheet ≡ sheetOf (now image)) ⌝ }
     ensures { λ r. ⌜ EdgeReach (now (image .entry)) ts k r ⌝ }
 {
-    let e = image::edge_at(image, ts.edges, k);
+    // a copy of the one table, so that all of them need not lie in memory for each edge
+    let edges = ts.edges;
+    let e = image::edge_at(image, edges, k);
     let path = e.path;
     path::reach::edge_reach(sheet, e, image::points_of(image, ts.points, path))
 }

@@ -95,12 +95,14 @@ fn corner_below(image: &[u32], ts: Tables, k: usize) -> bool
     requires { ⌜ AllSmall ts × (k < 4294967296) ⌝ }
     ensures { λ r. ⌜ r ≡ edgeBelow (now (image .entry)) ts k ⌝ }
 {
+    // a copy of the one table, so that all of them need not lie in memory for each edge
+    let edges = ts.edges;
     // only a MultiSegment is read whole
-    let flags = layout::field(image, ts.edges, k, layout::EDGE_FLAGS);
+    let flags = layout::field(image, edges, k, layout::EDGE_FLAGS);
     if layout::bits(flags, layout::PATH_STEP, layout::PATHS) != layout::PATH_MULTI_SEGMENT {
         return false;
     }
-    let e = image::edge_at(image, ts.edges, k);
+    let e = image::edge_at(image, edges, k);
     let path = e.path;
     path::corners::corner_below(e, image::points_of(image, ts.points, path))
 }
