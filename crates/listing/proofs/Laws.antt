@@ -1,9 +1,9 @@
--- Laws over plain values, which the functions' proofs cite: what a listing lacks, a turn of each loop, and the runs edge by edge.
+-- Laws over plain values, which the functions' proofs cite: what a listing lacks, and a turn of each loop.
 use native.Mathlib.Omega.{arith}
-use Prim.Native.Nat.{ℕ, zero, suc, _+_, _-_, _*_, _≤_, _<_}
+use Prim.Native.Nat.{ℕ, zero, suc, _+_, _-_, _≤_, _<_}
 use mathlib.Core.Bool.{Bool, true, false, not, _&&_, _||_}
-use mathlib.Core.List.{List, [], _∷_, _++_}
-use mathlib.Core.Path.{_≡_, refl, sym, _∙_, ap}
+use mathlib.Core.List.{List, _++_}
+use mathlib.Core.Path.{_≡_, refl, sym, _∙_}
 use lib.Dec.{leb}
 use lib.ListN.{getD}
 use borrow.Author.Tests.{le-leb, leb-true}
@@ -13,36 +13,29 @@ use Rattle.ground.specs.Each.{numbers, every}
 use Rattle.ground.specs.First.{orElse}
 use Rattle.ground.specs.Judged.{Judged, firstBad}
 use Rattle.ground.proofs.Judged.{bad-append}
-use Rattle.ground.proofs.Each.{by-bool, and-left, and-right, and-both, every-number, number-every, numbers-step, numbers-done, numbers-whole}
+use Rattle.ground.proofs.Each.{by-bool, and-left, and-right, and-both, every-number, number-every}
 use Rattle.layout.specs.declared.Tables.{Tables}
-use Rattle.layout.specs.Layout.{headerWidth, headerHeight, maxThings}
+use Rattle.layout.specs.Layout.{headerHeight}
 use Rattle.layout.specs.Tables.{word, recordAt}
-use Rattle.layout.specs.Small.{AllSmall}
 use Rattle.image.specs.declared.ElementKind.{ElementKind}
 use Rattle.image.specs.declared.ElementKind.the-variants as kind
-use Rattle.image.specs.declared.Header.{Header}
 use Rattle.image.specs.declared.Node.{Node}
 use Rattle.image.specs.declared.Edge.{Edge}
 use Rattle.image.specs.declared.Subgraph.{Subgraph}
-use Rattle.image.specs.Records.{headerOf, nodeAt, edgeAt, subgraphAt, elementKindNumber, thingTable}
-use Rattle.image.specs.Spans.{spanWords, pointsOf, tableWords}
+use Rattle.image.specs.Records.{elementKindNumber, thingTable}
 use Rattle.rows.specs.declared.Rows.{Rows}
 use Rattle.rows.specs.declared.Rows.the-variants as rows
-use Rattle.rows.specs.declared.Window.{Window}
 use Rattle.rows.specs.Computed.{rowsWithin}
-use Rattle.rows.specs.Window.{touchedRows, FirstAndLast}
+use Rattle.rows.specs.Window.{FirstAndLast}
 use Rattle.rows.proofs.Windows.{clash, touched-first-last}
-use Rattle.frame.specs.Computed.{nodeRows, subgraphRows}
-use Rattle.frame.proofs.Theorems.{node-rows, subgraph-rows}
-use Rattle.flow.specs.declared.Reach.{Reach}
-use Rattle.path.specs.Touched.{edgeTouches, edgeRuns, EdgeReached}
-use Rattle.elements.specs.Elements.{firstRow, lastRow, lister, listing}
-use Rattle.elements.specs.Slots.{slotOf, slotListing, Held}
+use Rattle.elements.specs.Elements.{firstRow, lastRow, listing}
+use Rattle.elements.specs.Slots.{slotOf, slotListing}
 use Rattle.elements.proofs.Records.{foundFrom, records-whole, records-again, records-hit, records-done}
 use Rattle.listing.specs.declared.Walk.{Walk}
-use Rattle.path.proofs.Few.{edge-few}
-use Rattle.listing.specs.Listing.{sheetOf, rangesOf, labelGlyphs, thingTouches, holdsRow, wellListed, thingsJudged, listedJudged, edgeRunsAt, total, runCount}
-use Rattle.listing.specs.Computed.{noRows, lacks, slotLacks, Bracket, Touched, Ready, EdgeReach, Walked}
+use Rattle.things.specs.Things.{sheetOf, thingTouches, runCount}
+use Rattle.things.specs.Computed.{Touched}
+use Rattle.listing.specs.Listing.{holdsRow, wellListed, thingsJudged, listedJudged}
+use Rattle.listing.specs.Computed.{noRows, lacks, slotLacks, Ready, Walked}
 
 not-not : (b : Bool) → not (not b) ≡ b
 not-not true = refl
@@ -129,50 +122,6 @@ pub slot-lack :
 unfolding slotLacks
 slot-lack image ts slots number k slot held touched lack s w l = l ∙ rw (w, s)
 
--- The sheet's window, and whether dummies are shown, as the code reads them.
-
-pub sheet-read :
-    (image : List ℕ) (width height columns rows : ℕ) → width ≡ word image headerWidth → columns ≡ width → height ≡ word image headerHeight → rows ≡ height →
-    record { width = columns; first = 0; rows = rows } ≡ sheetOf image
-sheet-read image width height columns rows p q s t = rw (q, p, t, s)
-
-pub shown : (image : List ℕ) (h : Header) → h ≡ headerOf image → h .«show_dummies» ≡ headerOf image .«show_dummies»
-shown image h e = rw e
-
--- The rows that each thing touches, as the code finds them.
-
-module _ (image : List ℕ) (ts : Tables) (k : ℕ) (sheet : Window) (touched : Rows) (p : sheet ≡ sheetOf image) where
-  pub node-touched :
-      (show : Bool) (n : Node) → show ≡ headerOf image .«show_dummies» → n ≡ nodeAt image (ts .nodes) k → touched ≡ nodeRows sheet show n →
-      Touched kind.Node image ts k touched
-  unfolding thingTouches
-  node-touched show n q e t = record {
-    rows = λ b. t ∙ rw (p, q, e) (node-rows (sheetOf image) (rangesOf image ts) (headerOf image .«show_dummies») (nodeAt image (ts .nodes) k) (labelGlyphs image ts (nodeAt image (ts .nodes) k .label)) b);
-  }
-
-  pub subgraph-touched :
-      (s : Subgraph) (ranges glyphs : List ℕ) → s ≡ subgraphAt image (ts .subgraphs) k → ranges ≡ tableWords image (ts .ranges) → glyphs ≡ spanWords image (ts .glyphs) (s .label) →
-      touched ≡ subgraphRows sheet ranges s glyphs → Touched kind.Subgraph image ts k touched
-  unfolding thingTouches
-  subgraph-touched s ranges glyphs e r g t = record {
-    rows = λ b. t ∙ rw (g, r, e, p) (subgraph-rows (sheetOf image) (rangesOf image ts) (subgraphAt image (ts .subgraphs) k) (labelGlyphs image ts (subgraphAt image (ts .subgraphs) k .label)));
-  }
-
-pub edge-reaches :
-    (image : List ℕ) (ts : Tables) (k : ℕ) (sheet : Window) (e : Edge) (points : List ℕ) (r : Reach) →
-    AllSmall ts → sheet ≡ sheetOf image → e ≡ edgeAt image (ts .edges) k → points ≡ pointsOf image (ts .points) (e .path) → EdgeReached sheet e points r → EdgeReach image ts k r
-unfolding thingTouches
-edge-reaches image ts k sheet e points r small p q s x = record {
-  touched = record { rows = λ b. x .rows ∙ rw (s, q, p) };
-  runs = x .runs ∙ rw (s, q, p);
-  few = rw (x .runs, s, q, p) (edge-few (sheetOf image) (edgeAt image (ts .edges) k) image (ts .points) (small .points));
-}
-
--- the kind that a thing is of
-pub of-kind :
-    (kind own : ElementKind) (image : List ℕ) (ts : Tables) (k : ℕ) (touched : Rows) → kind ≡ own → Touched own image ts k touched → Touched kind image ts k touched
-of-kind kind own image ts k touched e t = rw e t
-
 -- A slot that holds 0, or the number of an element and 1.
 
 module _ (image : List ℕ) (ts : Tables) (slot : ℕ) (touched : Rows) where
@@ -221,36 +170,6 @@ module _ (kind : ElementKind) (image : List ℕ) (ts : Tables) where
 
   pub things-done : (k : ℕ) (first : Found) → thingTable kind ts .count ≤ k → foundAfter k ≡ first → found.None ≡ first
   things-done k first h i = records-done (thingTable kind ts) (wellListed kind image ts) k first h i
-
--- The runs edge by edge: those of the edges before k, and those from it on.
-
-module _ (image : List ℕ) (ts : Tables) where
-  pub record Counting (k runs : ℕ) : Type 0 where
-    pub counted : runs + total (numbers k (ts .edges .count - k)) (edgeRunsAt image ts) ≡ runCount image ts
-    pub few : runs ≤ k * 0x10000000000
-
-  pub counting-whole : Counting 0 0
-  unfolding runCount
-  counting-whole = record {
-    counted =
-        let e : 0 + total (numbers 0 (ts .edges .count - 0)) (edgeRunsAt image ts) ≡ total (numbers 0 (ts .edges .count - 0)) (edgeRunsAt image ts) = omega arith in
-        e ∙ rw (numbers-whole (ts .edges .count));
-    few = omega arith;
-  }
-
-  pub counting-again :
-      (k runs : ℕ) (r : Reach) → k < ts .edges .count → Counting k runs → EdgeReach image ts k r → Counting (k + 1) (runs + r .runs)
-  unfolding total
-  counting-again k runs r h w x = record {
-    counted =
-        let e = rw (numbers-step k (ts .edges .count) h) at (w .counted) in
-        omega (arith, e, x .runs);
-    few = omega (arith, w .few, x .few);
-  }
-
-  pub counting-done : (k runs : ℕ) → ts .edges .count ≤ k → Counting k runs → runs ≡ runCount image ts
-  unfolding total
-  counting-done k runs h w = let e = rw (numbers-done k (ts .edges .count) h) at (w .counted) in omega arith
 
 -- A walk that finds something, and one that does not.
 

@@ -1,3 +1,3 @@
--- What the proofs of code 9 and of the run count share, and what they show.
+-- What the proofs of code 9 share, and what they show.
 pub mod Laws
 pub mod Theorems

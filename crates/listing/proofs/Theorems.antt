@@ -1,20 +1,17 @@
 -- Code 9 finds nothing exactly where an element lists each thing with each sheet row that it touches.
 use native.Mathlib.Omega.{arith}
-use Prim.Native.Nat.{ℕ, _+_, _≤_, _<_}
-use mathlib.Core.Bool.{Bool, true, false, not, _&&_, _||_}
-use mathlib.Core.List.{List, _++_}
+use Prim.Native.Nat.{ℕ, _<_}
+use mathlib.Core.Bool.{true, not, _||_}
+use mathlib.Core.List.{List}
 use mathlib.Core.Logic.{_↔_}
 use mathlib.Core.Path.{_≡_, refl, sym, _∙_}
 use lib.Dec.{leb}
 use borrow.Author.Tests.{le-leb, leb-true}
 use Rattle.ground.specs.declared.Found.{Found}
 use Rattle.ground.specs.declared.Found.the-variants as found
-use Rattle.ground.specs.First.{orElse}
-use Rattle.ground.specs.Each.{numbers, every}
 use Rattle.ground.specs.Judged.{firstBad}
 use Rattle.ground.proofs.Each.{by-bool, and-left, and-right, and-both, every-number, number-every}
 use Rattle.ground.proofs.First.{or-none-both}
-use Rattle.ground.proofs.Judged.{bad-append}
 use Rattle.ground.proofs.Order.{by-three}
 use Rattle.layout.specs.declared.Tables.{Tables}
 use Rattle.layout.specs.Layout.{headerHeight}
@@ -23,11 +20,12 @@ use Rattle.image.specs.declared.ElementKind.{ElementKind}
 use Rattle.image.specs.declared.ElementKind.the-variants as kind
 use Rattle.image.specs.Records.{elementKindNumber, thingTable}
 use Rattle.rows.proofs.Windows.{clash}
-use Rattle.elements.specs.Elements.{kindOf, indexOf, firstRow, lastRow, listing, Once}
+use Rattle.elements.specs.Elements.{kindOf, indexOf, firstRow, listing, Once}
 use Rattle.elements.proofs.Records.{records-good-iff}
 use Rattle.elements.proofs.Theorems.{listing-at, listing-none}
+use Rattle.things.specs.Things.{thingTouches}
 use Rattle.listing.proofs.Laws.{first-in-turn}
-use Rattle.listing.specs.Listing.{thingTouches, holdsRow, listsRow, wellListed, thingsJudged, listedJudged, Lists, AllListed}
+use Rattle.listing.specs.Listing.{holdsRow, listsRow, wellListed, thingsJudged, listedJudged, Lists, AllListed}
 
 -- Where no two elements name the same thing, a thing has one listing.
 one-listing :

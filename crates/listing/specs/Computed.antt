@@ -1,5 +1,5 @@
 -- For the proofs alone: how the code finds what touches a row that its listing lacks.
-use Prim.Native.Nat.{ℕ, _≤_, _<_}
+use Prim.Native.Nat.{ℕ, _≤_}
 use mathlib.Core.Bool.{Bool, true, false, not}
 use mathlib.Core.List.{List}
 use mathlib.Core.Path.{_≡_}
@@ -7,21 +7,17 @@ use lib.ListN.{getD}
 use Rattle.ground.specs.declared.Found.{Found}
 use Rattle.ground.specs.declared.Found.the-variants as found
 use Rattle.ground.specs.Judged.{Judged, firstBad}
-use Rattle.glyph.specs.Width.{widthOf}
 use Rattle.layout.specs.declared.Tables.{Tables}
 use Rattle.layout.specs.Layout.{maxThings}
 use Rattle.layout.specs.Small.{AllSmall}
-use Rattle.image.specs.declared.ElementKind.{ElementKind}
-use Rattle.image.specs.declared.ElementKind.the-variants as kind
 use Rattle.rows.specs.declared.Rows.{Rows}
 use Rattle.rows.specs.declared.Rows.the-variants as rows
 use Rattle.rows.specs.Computed.{rowsWithin}
-use Rattle.rows.specs.Window.{touchedRows}
-use Rattle.flow.specs.declared.Reach.{Reach}
 use Rattle.elements.specs.Elements.{firstRow, lastRow}
 use Rattle.elements.specs.Slots.{slotOf, slotListing, Held}
 use Rattle.listing.specs.declared.Walk.{Walk}
-use Rattle.listing.specs.Listing.{sheetOf, rangesOf, thingTouches, edgeRunsAt, runCount}
+use Rattle.things.specs.Things.{runCount}
+use Rattle.things.specs.Computed.{Bracket}
 
 abbrev pub noRows : Rows → Bool
 noRows rows.None = true
@@ -36,14 +32,6 @@ lacks image ts (found.At k) r = not (rowsWithin (firstRow image ts k) (lastRow i
 unfoldable pub slotLacks : List ℕ → Tables → List ℕ → ℕ → ℕ → Rows → Bool
 slotLacks image ts slots number k r = lacks image ts (slotListing (getD slots (slotOf number k) 0)) r
 
--- the opening bracket of a simple node has a width
-abbrev pub Bracket : List ℕ → Tables → Type 0
-Bracket image ts = 0 < widthOf (rangesOf image ts) 0x5B
-
--- rows are those that thing k of a kind touches, from the first to the last (for the bracket's sake where that has a width)
-pub record Touched (kind : ElementKind) (image : List ℕ) (ts : Tables) (k : ℕ) (r : Rows) : Type 0 where
-  pub rows : Bracket image ts → r ≡ touchedRows (sheetOf image) (thingTouches kind image ts k)
-
 -- what is known where codes 1 to 7 find nothing: there are slots for all things, each holds its thing's listing, and the bracket has a width
 pub record Ready (image : List ℕ) (ts : Tables) (slots : List ℕ) : Type 0 where
   pub small : AllSmall ts
@@ -52,12 +40,6 @@ pub record Ready (image : List ℕ) (ts : Tables) (slots : List ℕ) : Type 0 wh
   pub subgraphs : ts .subgraphs .count ≤ maxThings
   pub held : Held image ts slots (ts .elements .count)
   pub bracket : Bracket image ts
-
--- what edge k touches, and its runs
-pub record EdgeReach (image : List ℕ) (ts : Tables) (k : ℕ) (r : Reach) : Type 0 where
-  pub touched : Touched kind.Edge image ts k (r .rows)
-  pub runs : r .runs ≡ edgeRunsAt image ts k
-  pub few : r .runs ≤ 0x10000000000
 
 -- what a walk over things finds, and counts where it finds nothing
 pub record Walked (looked : List Judged) (image : List ℕ) (ts : Tables) (walk : Walk) : Type 0 where

@@ -1,3 +1,3 @@
--- What document 01 says of code 9 and of the run count.
+-- What document 01 says of code 9.
 pub mod Listing
 pub mod Computed

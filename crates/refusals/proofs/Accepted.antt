@@ -37,7 +37,7 @@ use Rattle.image.specs.Spans.{pointCount}
 use Rattle.path.specs.Pieces.{legAt}
 use Rattle.path.specs.Corners.{isBelow, legBelow, multiBelow, belowOf, cornerBelow}
 use Rattle.elements.proofs.Records.{records-good-iff}
-use Rattle.listing.specs.Listing.{rangesOf, edgePoints, runCount}
+use Rattle.things.specs.Things.{rangesOf, edgePoints, runCount}
 use Rattle.refusals.specs.Rules.{shortJudged, lengthJudged, rangesJudged, edgeBelow, cornersJudged, runsJudged}
 use Rattle.refusals.specs.Accepted.{LegAbove, CornersAbove}
 use Rattle.refusals.proofs.Kept.{ranges-kept}

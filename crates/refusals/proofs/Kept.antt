@@ -25,7 +25,8 @@ use Rattle.fields.specs.Good.{RecordsGood}
 use Rattle.fields.proofs.Theorems.{records-iff}
 use Rattle.elements.specs.Elements.{twiceJudged, orderJudged, ElementsGood}
 use Rattle.elements.specs.Slots.{Listed}
-use Rattle.listing.specs.Listing.{rangesOf, listedJudged}
+use Rattle.things.specs.Things.{rangesOf}
+use Rattle.listing.specs.Listing.{listedJudged}
 use Rattle.listing.specs.Computed.{Ready}
 use Rattle.refusals.specs.declared.Verdict.the-variants.{Passed}
 use Rattle.refusals.specs.FirstBroken.{firstBroken}

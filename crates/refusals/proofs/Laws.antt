@@ -31,7 +31,8 @@ use Rattle.path.specs.Corners.{belowOf, cornerBelow}
 use Rattle.elements.specs.Elements.{twiceJudged, orderJudged}
 use Rattle.elements.proofs.Records.{foundFrom, records-again, records-hit, records-done}
 use Rattle.listing.specs.declared.Walk.{Walk}
-use Rattle.listing.specs.Listing.{listedJudged, runCount}
+use Rattle.things.specs.Things.{runCount}
+use Rattle.listing.specs.Listing.{listedJudged}
 use Rattle.listing.specs.Computed.{Walked}
 use Rattle.refusals.specs.declared.Answer.{Answer}
 use Rattle.refusals.specs.declared.Verdict.{Verdict}

@@ -15,7 +15,7 @@ use Rattle.layout.specs.Tables.{tablesOf}
 use Rattle.header.proofs.Theorems.{header-iff}
 use Rattle.fields.proofs.Theorems.{records-iff}
 use Rattle.elements.proofs.Theorems.{twice-iff, order-iff}
-use Rattle.listing.specs.Listing.{rangesOf, runCount}
+use Rattle.things.specs.Things.{rangesOf, runCount}
 use Rattle.listing.proofs.Theorems.{listed-iff}
 use Rattle.refusals.specs.declared.Answer.{Answer}
 use Rattle.refusals.specs.declared.Verdict.{Verdict}

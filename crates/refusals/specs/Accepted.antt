@@ -21,7 +21,8 @@ use Rattle.x_flow.specs.XFlow.{cornerColumn}
 use Rattle.image.specs.Spans.{pointCount}
 use Rattle.path.specs.Pieces.{legAt}
 use Rattle.elements.specs.Elements.{Once, Ordered}
-use Rattle.listing.specs.Listing.{rangesOf, edgePoints, AllListed, runCount}
+use Rattle.things.specs.Things.{rangesOf, edgePoints, runCount}
+use Rattle.listing.specs.Listing.{AllListed}
 
 -- a leg whose ends differ across the flow has a corner, on a row on Y flow and on a column on X flow, that does not lie below 0
 pub record LegAbove (e : Edge) (offset : ℕ) (leg : Leg) : Type 0 where

@@ -15,7 +15,8 @@ use Rattle.fields.specs.Tables.{recordsJudged}
 use Rattle.path.specs.Corners.{cornerBelow}
 use Rattle.elements.specs.Records.{judgedRecords}
 use Rattle.elements.specs.Elements.{twiceJudged, orderJudged}
-use Rattle.listing.specs.Listing.{rangesOf, edgePoints, listedJudged, runCount}
+use Rattle.things.specs.Things.{rangesOf, edgePoints, runCount}
+use Rattle.listing.specs.Listing.{listedJudged}
 use Rattle.refusals.specs.declared.Answer.{Answer}
 use Rattle.refusals.specs.FirstBroken.{Rule, rule, firstBroken, answerOf}
 

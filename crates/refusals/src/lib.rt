@@ -5,7 +5,7 @@ ghost use Rattle.ground.specs.Judged.{firstBad};
 ghost use Rattle.layout.specs.Small.{AllSmall};
 ghost use Rattle.layout.specs.Tables.{tablesOf};
 ghost use Rattle.listing.specs.Computed.{Ready};
-ghost use Rattle.listing.specs.Listing.{runCount};
+ghost use Rattle.things.specs.Things.{runCount};
 ghost use Rattle.refusals.specs.declared.Verdict.the-variants as verdict;
 ghost use Rattle.refusals.specs.FirstBroken.{firstBroken, refused, answerOf};
 ghost use Rattle.refusals.specs.Rules.{rangesJudged, edgeBelow, cornersJudged, contentRules, formRules, touchRules, listingRules, checked};

@@ -187,7 +187,7 @@ fn explain_thing(image: &[u32], ts: Tables, kind: ElementKind, index: usize)
     requires { ⌜ AllSmall ts ⌝ }
 {
     if index < ground::number(MAX_THINGS) {
-        say_touched(listing::touched_rows(kind, image, ts, index));
+        say_touched(things::touched_rows(kind, image, ts, index));
     }
     say_listing(image, ts, image::element_kind_number(kind), index);
 }
@@ -216,7 +216,7 @@ fn explain_runs(image: &[u32], ts: Tables)
     );
     let edges = ts.edges;
     if edges.count <= ground::number(MAX_THINGS) {
-        say::count(b"; the image has ", listing::run_count(image, ts));
+        say::count(b"; the image has ", things::run_count(image, ts));
         say::text(b" runs on rows of the sheet");
     }
     say::text(b"\n");

@@ -6,7 +6,8 @@ use mathlib.Core.Path.{_≡_}
 use Rattle.ground.specs.Judged.{firstBad}
 use Rattle.image.specs.declared.ElementKind.the-variants as kind
 use Rattle.listing.specs.Listing.{thingsJudged}
-use Rattle.listing.proofs.Laws.{foundAfter, things-whole, things-hit, things-again, things-done, shown}
+use Rattle.things.proofs.Laws.{shown}
+use Rattle.listing.proofs.Laws.{foundAfter, things-whole, things-hit, things-again, things-done}
 use Rattle.listing.proofs.unlisted_node.Statement.{statement}
 use Rattle.listing.proofs.unlisted_node.Tie as tie
 

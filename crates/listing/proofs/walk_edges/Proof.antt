@@ -6,7 +6,8 @@ use mathlib.Core.Path.{_≡_}
 use Rattle.ground.specs.Judged.{firstBad}
 use Rattle.image.specs.declared.ElementKind.the-variants as kind
 use Rattle.listing.specs.Listing.{thingsJudged}
-use Rattle.listing.proofs.Laws.{foundAfter, things-whole, things-hit, things-again, things-done, Counting, counting-whole, counting-again, counting-done, walked-hit, walked-done}
+use Rattle.things.proofs.Laws.{Counting, counting-whole, counting-again, counting-done}
+use Rattle.listing.proofs.Laws.{foundAfter, things-whole, things-hit, things-again, things-done, walked-hit, walked-done}
 use Rattle.listing.proofs.walk_edges.Statement.{statement}
 use Rattle.listing.proofs.walk_edges.Tie as tie
 

@@ -1,8 +1,8 @@
 -- `edge_reach` gives what an edge touches, and its runs.
 use borrow.Author.Needs.{needs}
-use Rattle.listing.proofs.Laws.{edge-reaches}
-use Rattle.listing.proofs.edge_reach.Statement.{statement}
-use Rattle.listing.proofs.edge_reach.Tie as tie
+use Rattle.things.proofs.Laws.{edge-reaches}
+use Rattle.things.proofs.edge_reach.Statement.{statement}
+use Rattle.things.proofs.edge_reach.Tie as tie
 
 returns : tie.Need-returns
 returns c = search (edge-reaches, needs)

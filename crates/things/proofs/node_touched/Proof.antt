@@ -1,8 +1,8 @@
 -- `node_touched` gives the rows that a node touches.
 use borrow.Author.Needs.{needs}
-use Rattle.listing.proofs.Laws.{node-touched}
-use Rattle.listing.proofs.node_touched.Statement.{statement}
-use Rattle.listing.proofs.node_touched.Tie as tie
+use Rattle.things.proofs.Laws.{node-touched}
+use Rattle.things.proofs.node_touched.Statement.{statement}
+use Rattle.things.proofs.node_touched.Tie as tie
 
 returns : tie.Need-returns
 returns c = search (node-touched, needs)

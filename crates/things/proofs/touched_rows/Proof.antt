@@ -1,8 +1,8 @@
 -- `touched_rows` gives the rows that a thing touches.
 use borrow.Author.Needs.{needs}
-use Rattle.listing.proofs.Laws.{shown, of-kind}
-use Rattle.listing.proofs.touched_rows.Statement.{statement}
-use Rattle.listing.proofs.touched_rows.Tie as tie
+use Rattle.things.proofs.Laws.{shown, of-kind}
+use Rattle.things.proofs.touched_rows.Statement.{statement}
+use Rattle.things.proofs.touched_rows.Tie as tie
 
 node-touched-requires : tie.Need-node-touched-requires
 node-touched-requires c κs = search (shown, needs)

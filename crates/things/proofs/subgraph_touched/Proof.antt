@@ -1,8 +1,8 @@
 -- `subgraph_touched` gives the rows that a subgraph touches.
 use borrow.Author.Needs.{needs}
-use Rattle.listing.proofs.Laws.{subgraph-touched}
-use Rattle.listing.proofs.subgraph_touched.Statement.{statement}
-use Rattle.listing.proofs.subgraph_touched.Tie as tie
+use Rattle.things.proofs.Laws.{subgraph-touched}
+use Rattle.things.proofs.subgraph_touched.Statement.{statement}
+use Rattle.things.proofs.subgraph_touched.Tie as tie
 
 returns : tie.Need-returns
 returns c = search (subgraph-touched, needs)

@@ -1,8 +1,8 @@
 -- `sheet_of` gives the window of all rows.
 use borrow.Author.Needs.{needs}
-use Rattle.listing.proofs.Laws.{sheet-read}
-use Rattle.listing.proofs.sheet_of.Statement.{statement}
-use Rattle.listing.proofs.sheet_of.Tie as tie
+use Rattle.things.proofs.Laws.{sheet-read}
+use Rattle.things.proofs.sheet_of.Statement.{statement}
+use Rattle.things.proofs.sheet_of.Tie as tie
 
 returns : tie.Need-returns
 returns c = search (sheet-read, needs)

@@ -1,9 +1,9 @@
 -- `run_count` counts all runs. The loop's invariant: the runs so far with those of the edges left are all.
 use borrow.Author.Needs.{needs}
 use Prim.Native.Nat.{_-_, _≤_}
-use Rattle.listing.proofs.Laws.{Counting, counting-whole, counting-again, counting-done}
-use Rattle.listing.proofs.run_count.Statement.{statement}
-use Rattle.listing.proofs.run_count.Tie as tie
+use Rattle.things.proofs.Laws.{Counting, counting-whole, counting-again, counting-done}
+use Rattle.things.proofs.run_count.Statement.{statement}
+use Rattle.things.proofs.run_count.Tie as tie
 
 abbrev Inv-loop : tie.InvT-loop
 Inv-loop image ts sheet count total₀ k₀ total k = (k ≤ count) × Counting image ts k total

@@ -1,0 +1,2 @@
+-- What the proofs of what things touch share.
+pub mod Laws
