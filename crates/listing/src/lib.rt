@@ -147,4 +147,3 @@ pub fn walk_things(image: &[u32], ts: Tables, slots: &[u32]) -> Walk
         runs: edges.runs,
     }
 }
-

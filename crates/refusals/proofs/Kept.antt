@@ -1,6 +1,6 @@
 -- What it means that no rule of a list is broken, rule by rule, and what the walk over the list of elements may take for granted.
 use native.Mathlib.Omega.{arith}
-use Prim.Native.Nat.{ℕ, _≤_, _<_}
+use Prim.Native.Nat.{ℕ, _≤_}
 use mathlib.Core.List.{List}
 use mathlib.Core.Path.{_≡_, refl, sym, _∙_}
 use Rattle.ground.specs.declared.Found.{Found}
@@ -26,12 +26,13 @@ use Rattle.fields.proofs.Theorems.{records-iff}
 use Rattle.elements.specs.Elements.{twiceJudged, orderJudged, ElementsGood}
 use Rattle.elements.specs.Slots.{Listed}
 use Rattle.things.specs.Things.{rangesOf}
+use Rattle.corners.specs.Corners.{cornersJudged}
 use Rattle.listing.specs.Listing.{listedJudged}
 use Rattle.listing.specs.Computed.{Ready}
 use Rattle.refusals.specs.declared.Verdict.the-variants.{Passed}
 use Rattle.refusals.specs.FirstBroken.{firstBroken}
 use Rattle.refusals.specs.Rules.{tooShort, overLimit, wrongLength, badField, badRange, cornerBelowZero, listedTwice, outOfOrder, notListed, tooManyRuns}
-use Rattle.refusals.specs.Rules.{shortJudged, lengthJudged, rangesJudged, cornersJudged, runsJudged, contentRules, formRules, touchRules, listingRules}
+use Rattle.refusals.specs.Rules.{shortJudged, lengthJudged, rangesJudged, runsJudged, contentRules, formRules, touchRules, listingRules}
 use Rattle.refusals.proofs.FirstBroken.{none-left, kept-first, first-kept}
 
 -- codes 1 to 6 find nothing

@@ -1,16 +1,16 @@
--- Laws over plain values, which the functions' proofs cite: the rules that look at one thing, codes 5 and 6, and each list of rules, rule by rule.
+-- Laws over plain values, which the functions' proofs cite: the rules that look at one thing, code 5, and each list of rules, rule by rule.
 use native.Mathlib.Omega.{arith}
-use Prim.Native.Nat.{ℕ, zero, suc, _+_, _-_, _*_, _/_, _≤_, _<_}
+use Prim.Native.Nat.{ℕ, zero, suc, _+_, _*_, _≤_, _<_}
 use mathlib.Core.Bool.{Bool, true, false, not}
-use mathlib.Core.List.{List, [], _∷_, _++_}
-use mathlib.Core.Path.{_≡_, refl, sym, _∙_, ap}
+use mathlib.Core.List.{List, [], _∷_}
+use mathlib.Core.Path.{_≡_, refl, sym, _∙_}
 use lib.Dec.{eqb, leb}
 use lib.ListN.{length}
 use borrow.Author.Tests.{le-leb, lt-leb, eq-eqb, ne-eqb}
 use Rattle.ground.specs.declared.Found.{Found}
 use Rattle.ground.specs.declared.Found.the-variants as found
 use Rattle.ground.specs.Each.{numbers, each}
-use Rattle.ground.specs.Judged.{Judged, judged, firstBad}
+use Rattle.ground.specs.Judged.{judged, firstBad}
 use Rattle.ground.proofs.Each.{by-bool}
 use Rattle.ground.proofs.Judged.{one-judged}
 use Rattle.glyph.specs.Width.{rangeCount}
@@ -18,28 +18,25 @@ use Rattle.glyph.specs.Ranges.{rangeBroken}
 use Rattle.glyph.specs.Ranges as glyph
 use Rattle.glyph.proofs.Theorems.{broken-placed}
 use Rattle.layout.specs.declared.Tables.{Tables}
-use Rattle.layout.specs.Layout.{headerSize, headerRuns, edgeFlags, rangeSize, pathStep, paths, pathCorner, pathSideChannel, pathMultiSegment, pathOrthogonal, pathSpline}
+use Rattle.layout.specs.Layout.{headerSize, headerRuns, rangeSize}
 use Rattle.layout.specs.Small.{AllSmall}
-use Rattle.layout.specs.Tables.{word, bits, field, recordAt, tableEnd, tablesOf, wantedLength}
-use Rattle.image.specs.declared.Edge.{Edge}
-use Rattle.image.specs.Records.{pathOf, edgeAt}
-use Rattle.image.specs.Spans.{tableWords, pointsOf}
+use Rattle.layout.specs.Tables.{word, field, recordAt, tableEnd, tablesOf, wantedLength}
+use Rattle.image.specs.Spans.{tableWords}
 use Rattle.image.proofs.Theorems.{span-length}
 use Rattle.header.specs.Header.{headerJudged}
 use Rattle.fields.specs.Tables.{recordsJudged}
-use Rattle.path.specs.Corners.{belowOf, cornerBelow}
 use Rattle.elements.specs.Elements.{twiceJudged, orderJudged}
-use Rattle.elements.proofs.Records.{foundFrom, records-again, records-hit, records-done}
 use Rattle.listing.specs.declared.Walk.{Walk}
 use Rattle.things.specs.Things.{runCount}
 use Rattle.listing.specs.Listing.{listedJudged}
 use Rattle.listing.specs.Computed.{Walked}
+use Rattle.corners.specs.Corners.{cornersJudged}
 use Rattle.refusals.specs.declared.Answer.{Answer}
 use Rattle.refusals.specs.declared.Verdict.{Verdict}
 use Rattle.refusals.specs.declared.Verdict.the-variants.{Passed, Refused}
 use Rattle.refusals.specs.FirstBroken.{firstBroken, refused, accepted, answerOf}
 use Rattle.refusals.specs.Rules.{tooShort, overLimit, wrongLength, badField, badRange, cornerBelowZero, listedTwice, outOfOrder, notListed, tooManyRuns}
-use Rattle.refusals.specs.Rules.{shortJudged, lengthJudged, rangesJudged, edgeBelow, cornersJudged, runsJudged, contentRules, formRules, touchRules, listingRules, rules, checked}
+use Rattle.refusals.specs.Rules.{shortJudged, lengthJudged, rangesJudged, runsJudged, contentRules, formRules, touchRules, listingRules, rules, checked}
 use Rattle.refusals.proofs.FirstBroken.{andThen, broken-append, refuses, passes, none-left, answer-refuses, answer-passes, answer-accepts}
 
 -- A rule that looks at one thing: what is found where it is kept, and where it is not.
@@ -81,44 +78,6 @@ module _ (image : List ℕ) (ts : Tables) (ranges : List ℕ) (broken : Found) (
       let m = rw s at l in
       let c = small .ranges .count in
       omega arith
-
--- Code 6, edge by edge.
-
-pub edge-below :
-    (image : List ℕ) (ts : Tables) (k : ℕ) (e : Edge) (points : List ℕ) (below : Bool) →
-    e ≡ edgeAt image (ts .edges) k → points ≡ pointsOf image (ts .points) (e .path) → below ≡ cornerBelow e points → below ≡ edgeBelow image ts k
-edge-below image ts k e points below p q s = s ∙ rw (q, p)
-
--- An edge that is no MultiSegment has no such corner.
-
-no-legs : (number a b c : ℕ) (e : Edge) (points : List ℕ) → (number ≡ pathMultiSegment → ⊥) → false ≡ belowOf (pathOf number a b c) e points
-unfolding pathOf belowOf
-no-legs number a b c e points h =
-    by-bool (eqb number pathCorner) (λ t. rw t)
-    (λ t. by-bool (eqb number pathSideChannel) (λ u. rw (t, u))
-    (λ u. by-bool (eqb number pathOrthogonal) (λ v. rw (t, u, ne-eqb _ _ h, v))
-    (λ v. by-bool (eqb number pathSpline) (λ w. rw (t, u, ne-eqb _ _ h, v, w)) (λ w. rw (t, u, ne-eqb _ _ h, v, w)))))
-
-pub legless-below :
-    (image : List ℕ) (ts : Tables) (k flags number : ℕ) →
-    flags ≡ field image (ts .edges) k edgeFlags → number ≡ bits flags pathStep paths → (number ≡ pathMultiSegment → ⊥) →
-    false ≡ edgeBelow image ts k
-unfolding edgeAt
-legless-below image ts k flags number f n h = no-legs (bits (field image (ts .edges) k edgeFlags) pathStep paths) _ _ _ _ _ (rw (← f, ← n) h)
-
-abbrev pub aboveZero : List ℕ → Tables → ℕ → Bool
-aboveZero image ts k = not (edgeBelow image ts k)
-
-module _ (image : List ℕ) (ts : Tables) (k : ℕ) (first : Found) where
-  module _ (below : Bool) (h : k < ts .edges .count) (i : foundFrom (ts .edges) (aboveZero image ts) k ≡ first) (e : below ≡ edgeBelow image ts k) where
-    pub corner-kept : below ≡ false → foundFrom (ts .edges) (aboveZero image ts) (k + 1) ≡ first
-    corner-kept z = records-again (ts .edges) (aboveZero image ts) k first h i (rw (← e, z))
-
-    pub corner-broken : (place : ℕ) → place ≡ recordAt (ts .edges) k → below ≡ true → found.At place ≡ first
-    corner-broken place p z = records-hit (ts .edges) (aboveZero image ts) k first h i place p (rw (← e, z))
-
-  pub corner-done : ts .edges .count ≤ k → foundFrom (ts .edges) (aboveZero image ts) k ≡ first → found.None ≡ first
-  corner-done h i = records-done (ts .edges) (aboveZero image ts) k first h i
 
 -- Codes 4 to 6.
 

@@ -1,8 +1,8 @@
 -- The check accepts exactly the images that keep every rule, and refuses with the first rule that is broken, at its place.
 use native.Mathlib.Omega.{arith}
 use Prim.Native.Nat.{ℕ, _≤_, _<_}
-use mathlib.Core.Bool.{Bool, true, false, _&&_}
-use mathlib.Core.List.{List, _∷_, _++_}
+use mathlib.Core.Bool.{Bool, true, _&&_}
+use mathlib.Core.List.{List, _∷_}
 use mathlib.Core.Logic.{_↔_}
 use mathlib.Core.Path.{_≡_, refl, sym, ap, _∙_}
 use lib.Dec.{ltb, leb}
@@ -16,16 +16,17 @@ use Rattle.header.proofs.Theorems.{header-iff}
 use Rattle.fields.proofs.Theorems.{records-iff}
 use Rattle.elements.proofs.Theorems.{twice-iff, order-iff}
 use Rattle.things.specs.Things.{rangesOf, runCount}
+use Rattle.corners.proofs.Theorems.{corners-iff}
 use Rattle.listing.proofs.Theorems.{listed-iff}
 use Rattle.refusals.specs.declared.Answer.{Answer}
 use Rattle.refusals.specs.declared.Verdict.{Verdict}
 use Rattle.refusals.specs.declared.Verdict.the-variants.{Passed, Refused}
-use Rattle.refusals.specs.FirstBroken.{Rule, rule, firstBroken, BrokenFirst, refused, answerOf}
+use Rattle.refusals.specs.FirstBroken.{rule, firstBroken, BrokenFirst, refused, answerOf}
 use Rattle.refusals.specs.Rules.{contentRules, formRules, touchRules, listingRules, rules, checked}
 use Rattle.refusals.specs.Accepted.{Keeps}
 use Rattle.refusals.proofs.FirstBroken.{andThen, broken-append, broken-first, first-broken}
 use Rattle.refusals.proofs.Kept.{FormKept, ListingKept, form-kept, kept-form, listing-kept, kept-listing, ranges-kept}
-use Rattle.refusals.proofs.Accepted.{short-iff, length-iff, runs-iff, ranges-iff, corners-iff}
+use Rattle.refusals.proofs.Accepted.{short-iff, length-iff, runs-iff, ranges-iff}
 
 -- Every code is from 1 to 10.
 

@@ -7,32 +7,13 @@ use Rattle.glyph.specs.Ranges.{RangeGood}
 use Rattle.layout.specs.declared.Tables.{Tables}
 use Rattle.layout.specs.Layout.{headerSize, headerRuns}
 use Rattle.layout.specs.Tables.{word, tablesOf, wantedLength}
-use Rattle.image.specs.declared.Edge.{Edge}
-use Rattle.image.specs.declared.FlowAxis.the-variants.{Y, X}
-use Rattle.image.specs.declared.Path.the-variants.{MultiSegment}
-use Rattle.image.specs.declared.Span.{Span}
 use Rattle.image.specs.Records.{edgeAt}
 use Rattle.header.specs.Header.{HeaderGood}
 use Rattle.fields.specs.Good.{RecordsGood}
-use Rattle.flow.specs.declared.Coordinate.the-variants.{Below}
-use Rattle.flow.specs.declared.Leg.{Leg}
-use Rattle.y_flow.specs.YFlow.{cornerRow}
-use Rattle.x_flow.specs.XFlow.{cornerColumn}
-use Rattle.image.specs.Spans.{pointCount}
-use Rattle.path.specs.Pieces.{legAt}
 use Rattle.elements.specs.Elements.{Once, Ordered}
 use Rattle.things.specs.Things.{rangesOf, edgePoints, runCount}
+use Rattle.corners.specs.Corners.{CornersAbove}
 use Rattle.listing.specs.Listing.{AllListed}
-
--- a leg whose ends differ across the flow has a corner, on a row on Y flow and on a column on X flow, that does not lie below 0
-pub record LegAbove (e : Edge) (offset : ℕ) (leg : Leg) : Type 0 where
-  pub row : e .«flow_axis» ≡ Y → (leg .x1 ≡ leg .x2 → ⊥) → cornerRow e offset leg ≡ Below → ⊥
-  pub column : e .«flow_axis» ≡ X → (leg .y1 ≡ leg .y2 → ⊥) → cornerColumn e offset leg ≡ Below → ⊥
-
--- each leg of a MultiSegment
-abbrev pub CornersAbove : Edge → List ℕ → Type 0
-CornersAbove e points =
-    (span : Span) (offset leg : ℕ) → e .path ≡ MultiSegment span offset → leg ≤ pointCount points → LegAbove e offset (legAt e points leg)
 
 -- the rules about records and the list, for an image whose tables are these
 pub record KeepsTables (image : List ℕ) (ts : Tables) : Type 0 where

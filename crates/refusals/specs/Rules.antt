@@ -1,6 +1,5 @@
 -- "Refusals in order": the rules in a list, each with its code and with what it looks at, and what check answers.
 use Prim.Native.Nat.{ℕ}
-use mathlib.Core.Bool.{Bool, not}
 use mathlib.Core.List.{List, [], _∷_, _++_}
 use lib.Dec.{eqb, leb}
 use lib.ListN.{length}
@@ -9,13 +8,11 @@ use Rattle.glyph.specs.Ranges.{judgedRanges}
 use Rattle.layout.specs.declared.Tables.{Tables}
 use Rattle.layout.specs.Layout.{headerSize, headerRuns}
 use Rattle.layout.specs.Tables.{word, recordAt, tablesOf, wantedLength}
-use Rattle.image.specs.Records.{edgeAt}
 use Rattle.header.specs.Header.{headerJudged}
 use Rattle.fields.specs.Tables.{recordsJudged}
-use Rattle.path.specs.Corners.{cornerBelow}
-use Rattle.elements.specs.Records.{judgedRecords}
 use Rattle.elements.specs.Elements.{twiceJudged, orderJudged}
-use Rattle.things.specs.Things.{rangesOf, edgePoints, runCount}
+use Rattle.things.specs.Things.{rangesOf, runCount}
+use Rattle.corners.specs.Corners.{cornersJudged}
 use Rattle.listing.specs.Listing.{listedJudged}
 use Rattle.refusals.specs.declared.Answer.{Answer}
 use Rattle.refusals.specs.FirstBroken.{Rule, rule, firstBroken, answerOf}
@@ -63,14 +60,6 @@ lengthJudged image = judged (wantedLength image) (eqb (length image) (wantedLeng
 -- 5: "a width range has first > last, ..", place "its first word"
 unfoldable pub rangesJudged : List ℕ → Tables → List Judged
 rangesJudged image ts = judgedRanges (recordAt (ts .ranges)) (rangesOf image ts)
-
--- 6: "a MultiSegment corner lies below 0", place "edge's first word"
-
-abbrev pub edgeBelow : List ℕ → Tables → ℕ → Bool
-edgeBelow image ts k = cornerBelow (edgeAt image (ts .edges) k) (edgePoints image ts k)
-
-unfoldable pub cornersJudged : List ℕ → Tables → List Judged
-cornersJudged image ts = judgedRecords (ts .edges) (λ k. not (edgeBelow image ts k))
 
 -- 10: "run capacity below the run count", place 2
 unfoldable pub runsJudged : List ℕ → Tables → List Judged

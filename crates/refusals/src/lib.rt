@@ -1,6 +1,5 @@
 // The check: codes 1 to 10 of document 01's "Refusals in order", with place and run count, for every slice of words.
 ghost use mathlib.Core.Path.{_≡_};
-ghost use Prim.Native.Nat.{_≤_, _<_};
 ghost use Rattle.ground.specs.Judged.{firstBad};
 ghost use Rattle.layout.specs.Small.{AllSmall};
 ghost use Rattle.layout.specs.Tables.{tablesOf};
@@ -8,7 +7,7 @@ ghost use Rattle.listing.specs.Computed.{Ready};
 ghost use Rattle.things.specs.Things.{runCount};
 ghost use Rattle.refusals.specs.declared.Verdict.the-variants as verdict;
 ghost use Rattle.refusals.specs.FirstBroken.{firstBroken, refused, answerOf};
-ghost use Rattle.refusals.specs.Rules.{rangesJudged, edgeBelow, cornersJudged, contentRules, formRules, touchRules, listingRules, checked};
+ghost use Rattle.refusals.specs.Rules.{rangesJudged, contentRules, formRules, touchRules, listingRules, checked};
 use ground::Found;
 use layout::HEADER_RUNS;
 use layout::HEADER_SIZE;
@@ -90,40 +89,6 @@ fn bad_range(image: &[u32], ts: Tables) -> Found
     Found::At(layout::record_at(ts.ranges, k))
 }
 
-// Whether a corner of edge k lies below 0.
-fn corner_below(image: &[u32], ts: Tables, k: usize) -> bool
-    requires { ⌜ AllSmall ts × (k < 4294967296) ⌝ }
-    ensures { λ r. ⌜ r ≡ edgeBelow (now (image .entry)) ts k ⌝ }
-{
-    // a copy of the one table, so that all of them need not lie in memory for each edge
-    let edges = ts.edges;
-    // only a MultiSegment is read whole
-    let flags = layout::field(image, edges, k, layout::EDGE_FLAGS);
-    if layout::bits(flags, layout::PATH_STEP, layout::PATHS) != layout::PATH_MULTI_SEGMENT {
-        return false;
-    }
-    let e = image::edge_at(image, edges, k);
-    let path = e.path;
-    path::corners::corner_below(e, image::points_of(image, ts.points, path))
-}
-
-// Code 6: the first word of the first such edge.
-fn bad_corner(image: &[u32], ts: Tables) -> Found
-    requires { ⌜ AllSmall ts ⌝ }
-    ensures { λ r. ⌜ r ≡ firstBad (cornersJudged (now (image .entry)) ts) ⌝ }
-{
-    let edges = ts.edges;
-    let count = edges.count;
-    let mut k: usize = 0;
-    while k < count {
-        if corner_below(image, ts, k) {
-            return Found::At(layout::record_at(edges, k));
-        }
-        k += 1;
-    }
-    Found::None
-}
-
 // Codes 4 to 6.
 fn check_content(image: &[u32], ts: Tables) -> Verdict
     requires { ⌜ (ts ≡ tablesOf (now image)) × AllSmall ts ⌝ }
@@ -143,7 +108,7 @@ fn check_content(image: &[u32], ts: Tables) -> Verdict
             place: place,
         };
     }
-    let corner = bad_corner(image, ts);
+    let corner = corners::bad_corner(image, ts);
     if let Found::At(place) = corner {
         return Verdict::Refused {
             code: CORNER_BELOW_ZERO,

@@ -4,10 +4,10 @@ use Prim.Native.Nat.{_-_, _≤_}
 use mathlib.Core.Path.{_≡_}
 use Rattle.ground.specs.Judged.{firstBad}
 use Rattle.elements.proofs.Records.{foundFrom, records-whole}
-use Rattle.refusals.specs.Rules.{cornersJudged}
-use Rattle.refusals.proofs.Laws.{aboveZero, corner-broken, corner-kept, corner-done}
-use Rattle.refusals.proofs.bad_corner.Statement.{statement}
-use Rattle.refusals.proofs.bad_corner.Tie as tie
+use Rattle.corners.specs.Corners.{cornersJudged}
+use Rattle.corners.proofs.Laws.{aboveZero, corner-broken, corner-kept, corner-done}
+use Rattle.corners.proofs.bad_corner.Statement.{statement}
+use Rattle.corners.proofs.bad_corner.Tie as tie
 
 abbrev Inv-loop : tie.InvT-loop
 Inv-loop image ts edges count k₀ k =
