@@ -3,3 +3,4 @@ pub mod Layout
 pub mod Tables
 pub mod Fields
 pub mod Small
+pub mod Inside

@@ -1,7 +1,8 @@
-// The layout of a sheet image: its numbers by name, its words, where its tables stand, and which field stands at a place. Every reader takes any words: a
-// word past the end reads 0.
+// The layout of a sheet image: its numbers by name, its words, where its tables stand, and which field stands at a place. Every reader but `word_inside`
+// takes any words: a word past the end reads 0.
 ghost use mathlib.Core.Path.{_≡_};
 ghost use Prim.Native.Nat.{_+_, _*_, _≤_, _<_};
+ghost use lib.ListN.{length};
 ghost use Rattle.layout.specs.Tables.{word, bits, flag, tableEnd, tablesOf, recordAt, placeOf, field};
 ghost use Rattle.layout.specs.Fields.{tableOf, fieldIn, fieldInOr, fieldPastLabels, fieldAt};
 ghost use Rattle.layout.specs.Small.{Small, Follows, AllSmall};
@@ -251,6 +252,14 @@ pub fn word(image: &[u32], place: usize) -> u32
     ensures { λ r. ⌜ r ≡ word (now (image .entry)) place ⌝ }
 {
     if place < image.len() { image[place] } else { 0 }
+}
+
+// A word that is there.
+pub fn word_inside(image: &[u32], place: usize) -> u32
+    requires { ⌜ place < length (now image) ⌝ }
+    ensures { λ r. ⌜ r ≡ word (now (image .entry)) place ⌝ }
+{
+    image[place]
 }
 
 // The number that stands at the bits from this step up.
