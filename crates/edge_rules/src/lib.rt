@@ -1,8 +1,9 @@
 // Code 4 for an edge: its words in turn. Each function is told where the edge begins and what the tables that it refers to hold.
 ghost use mathlib.Core.Path.{_≡_};
-ghost use Prim.Native.Nat.{_+_, _<_};
+ghost use Prim.Native.Nat.{_+_, _≤_, _<_};
+ghost use lib.ListN.{length};
 ghost use Rattle.ground.specs.Judged.{firstBad, judgedWords};
-ghost use Rattle.layout.specs.Layout.{edgeA, edgeLabelStart};
+ghost use Rattle.layout.specs.Layout.{edgeA, edgeLabelStart, edgeSize};
 ghost use Rattle.layout.specs.Tables.{word};
 ghost use Rattle.header.specs.Words.{inside};
 ghost use Rattle.header.specs.InTurn.{orUnless, orWords, wordsAt};
@@ -12,7 +13,7 @@ use header::four_at_most;
 use header::or_unless;
 use layout::MAX_COORDINATE;
 use layout::flag;
-use layout::word;
+use layout::word_inside;
 
 // "start + count leaves its table"
 pub fn span_good(start: u32, count: u32, held: usize) -> bool
@@ -36,9 +37,10 @@ fn edge_flags_good(flags: u32) -> bool
 }
 
 fn bad_edge_flags(before: Found, image: &[u32], place: usize) -> Found
+    requires { ⌜ place < length (now image) ⌝ }
     ensures { λ r. ⌜ r ≡ orUnless before (edgeFlagsGood (word (now (image .entry)) place)) place ⌝ }
 {
-    or_unless(before, edge_flags_good(word(image, place)), place)
+    or_unless(before, edge_flags_good(word_inside(image, place)), place)
 }
 
 // Whether an edge's a, b and c each keep the rule of its path.
@@ -93,18 +95,18 @@ fn path_good(points: usize, path: u32, a: u32, b: u32, c: u32) -> PathWords
 
 // The same of the edge at a place.
 fn path_at(image: &[u32], at: usize, points: usize) -> PathWords
-    requires { ⌜ at < 0x20000000000 ⌝ }
+    requires { ⌜ at + edgeSize ≤ length (now image) ⌝ }
     ensures { λ r. ⌜ r ≡ edgePath points (wordsAt (now (image .entry)) at) ⌝ }
 {
-    let a = word(image, at + layout::EDGE_A);
-    let b = word(image, at + layout::EDGE_B);
-    let c = word(image, at + layout::EDGE_C);
-    let flags = word(image, at + layout::EDGE_FLAGS);
+    let a = word_inside(image, at + layout::EDGE_A);
+    let b = word_inside(image, at + layout::EDGE_B);
+    let c = word_inside(image, at + layout::EDGE_C);
+    let flags = word_inside(image, at + layout::EDGE_FLAGS);
     path_good(points, path_number(flags), a, b, c)
 }
 
 fn bad_path(before: Found, image: &[u32], at: usize, points: usize) -> Found
-    requires { ⌜ at < 0x20000000000 ⌝ }
+    requires { ⌜ at + edgeSize ≤ length (now image) ⌝ }
     ensures { λ r. ⌜ r ≡ orWords before at edgeA (pathRules points (wordsAt (now (image .entry)) at)) ⌝ }
 {
     let good = path_at(image, at, points);
@@ -135,12 +137,12 @@ fn label_count_good(flags: u32, count: u32) -> bool
 }
 
 fn bad_edge_label(before: Found, image: &[u32], at: usize, glyphs: usize) -> Found
-    requires { ⌜ at < 0x20000000000 ⌝ }
+    requires { ⌜ at + edgeSize ≤ length (now image) ⌝ }
     ensures { λ r. ⌜ r ≡ orWords before at edgeLabelStart (labelRules glyphs (wordsAt (now (image .entry)) at)) ⌝ }
 {
-    let flags = word(image, at + layout::EDGE_FLAGS);
-    let start = word(image, at + layout::EDGE_LABEL_START);
-    let count = word(image, at + layout::EDGE_LABEL_COUNT);
+    let flags = word_inside(image, at + layout::EDGE_FLAGS);
+    let start = word_inside(image, at + layout::EDGE_LABEL_START);
+    let count = word_inside(image, at + layout::EDGE_LABEL_COUNT);
     let bad_start = or_unless(
         before,
         label_start_good(glyphs, flags, start, count),
@@ -155,7 +157,7 @@ fn bad_edge_label(before: Found, image: &[u32], at: usize, glyphs: usize) -> Fou
 
 // An edge, where so many points and glyphs are held.
 pub fn bad_edge(image: &[u32], at: usize, points: usize, glyphs: usize) -> Found
-    requires { ⌜ at < 0x20000000000 ⌝ }
+    requires { ⌜ at + edgeSize ≤ length (now image) ⌝ }
     ensures { λ r. ⌜ r ≡ firstBad (judgedWords at 0 (edgeRules points glyphs (wordsAt (now (image .entry)) at))) ⌝ }
 {
     let ends = four_at_most(Found::None, image, at, MAX_COORDINATE);

@@ -2,7 +2,8 @@
 ghost use mathlib.Core.Path.{_≡_};
 ghost use Rattle.ground.specs.Each.{each};
 ghost use Rattle.ground.specs.Judged.{firstBad};
-ghost use Rattle.layout.specs.Small.{Small, AllSmall};
+ghost use Rattle.layout.specs.Inside.{Inside, AllInside};
+ghost use Rattle.layout.specs.Layout.{nodeSize, edgeSize, subgraphSize, labelSize, elementSize, pointSize, glyphSize, rangeSize};
 ghost use Rattle.edge_rules.specs.Edge.{edgeRules};
 ghost use Rattle.records.specs.Records.{nodeRules, subgraphRules, placedLabelRules, elementRules, pointRules, glyphRules, rangeRules};
 ghost use Rattle.fields.specs.Tables.{tableJudged, kindJudged, firstKinds, lastKinds, recordsJudged};
@@ -22,7 +23,7 @@ use records::bad_subgraph;
 
 // The nodes, where so many glyphs are held.
 fn bad_nodes(image: &[u32], table: Table, glyphs: usize) -> Found
-    requires { ⌜ Small table ⌝ }
+    requires { ⌜ Inside (now image) nodeSize table ⌝ }
     ensures { λ r. ⌜ r ≡ firstBad (tableJudged (now (image .entry)) table (nodeRules glyphs)) ⌝ }
 {
     let count = table.count;
@@ -39,7 +40,7 @@ fn bad_nodes(image: &[u32], table: Table, glyphs: usize) -> Found
 
 // The edges, where so many points and glyphs are held.
 fn bad_edges(image: &[u32], table: Table, points: usize, glyphs: usize) -> Found
-    requires { ⌜ Small table ⌝ }
+    requires { ⌜ Inside (now image) edgeSize table ⌝ }
     ensures { λ r. ⌜ r ≡ firstBad (tableJudged (now (image .entry)) table (edgeRules points glyphs)) ⌝ }
 {
     let count = table.count;
@@ -56,7 +57,7 @@ fn bad_edges(image: &[u32], table: Table, points: usize, glyphs: usize) -> Found
 
 // The subgraphs, where so many glyphs are held.
 fn bad_subgraphs(image: &[u32], table: Table, glyphs: usize) -> Found
-    requires { ⌜ Small table ⌝ }
+    requires { ⌜ Inside (now image) subgraphSize table ⌝ }
     ensures { λ r. ⌜ r ≡ firstBad (tableJudged (now (image .entry)) table (subgraphRules glyphs)) ⌝ }
 {
     let count = table.count;
@@ -73,7 +74,7 @@ fn bad_subgraphs(image: &[u32], table: Table, glyphs: usize) -> Found
 
 // The placed labels, where so many edges are held.
 fn bad_placed_labels(image: &[u32], table: Table, edges: usize) -> Found
-    requires { ⌜ Small table ⌝ }
+    requires { ⌜ Inside (now image) labelSize table ⌝ }
     ensures { λ r. ⌜ r ≡ firstBad (tableJudged (now (image .entry)) table (placedLabelRules edges)) ⌝ }
 {
     let count = table.count;
@@ -90,7 +91,7 @@ fn bad_placed_labels(image: &[u32], table: Table, edges: usize) -> Found
 
 // The elements, where so many nodes, edges and subgraphs are held.
 fn bad_elements(image: &[u32], table: Table, nodes: usize, edges: usize, subgraphs: usize) -> Found
-    requires { ⌜ Small table ⌝ }
+    requires { ⌜ Inside (now image) elementSize table ⌝ }
     ensures { λ r. ⌜ r ≡ firstBad (tableJudged (now (image .entry)) table (elementRules nodes edges subgraphs)) ⌝ }
 {
     let count = table.count;
@@ -107,7 +108,7 @@ fn bad_elements(image: &[u32], table: Table, nodes: usize, edges: usize, subgrap
 
 // The points.
 fn bad_points(image: &[u32], table: Table) -> Found
-    requires { ⌜ Small table ⌝ }
+    requires { ⌜ Inside (now image) pointSize table ⌝ }
     ensures { λ r. ⌜ r ≡ firstBad (tableJudged (now (image .entry)) table pointRules) ⌝ }
 {
     let count = table.count;
@@ -124,7 +125,7 @@ fn bad_points(image: &[u32], table: Table) -> Found
 
 // The glyphs.
 fn bad_glyphs(image: &[u32], table: Table) -> Found
-    requires { ⌜ Small table ⌝ }
+    requires { ⌜ Inside (now image) glyphSize table ⌝ }
     ensures { λ r. ⌜ r ≡ firstBad (tableJudged (now (image .entry)) table glyphRules) ⌝ }
 {
     let count = table.count;
@@ -141,7 +142,7 @@ fn bad_glyphs(image: &[u32], table: Table) -> Found
 
 // The width ranges.
 fn bad_ranges(image: &[u32], table: Table) -> Found
-    requires { ⌜ Small table ⌝ }
+    requires { ⌜ Inside (now image) rangeSize table ⌝ }
     ensures { λ r. ⌜ r ≡ firstBad (tableJudged (now (image .entry)) table rangeRules) ⌝ }
 {
     let count = table.count;
@@ -158,7 +159,7 @@ fn bad_ranges(image: &[u32], table: Table) -> Found
 
 // The first four tables.
 fn bad_in_first(image: &[u32], ts: Tables) -> Found
-    requires { ⌜ AllSmall ts ⌝ }
+    requires { ⌜ AllInside (now image) ts ⌝ }
     ensures { λ r. ⌜ r ≡ firstBad (each firstKinds (kindJudged (now (image .entry)) ts)) ⌝ }
 {
     let edges = ts.edges;
@@ -176,7 +177,7 @@ fn bad_in_first(image: &[u32], ts: Tables) -> Found
 
 // The last four tables.
 fn bad_in_last(image: &[u32], ts: Tables) -> Found
-    requires { ⌜ AllSmall ts ⌝ }
+    requires { ⌜ AllInside (now image) ts ⌝ }
     ensures { λ r. ⌜ r ≡ firstBad (each lastKinds (kindJudged (now (image .entry)) ts)) ⌝ }
 {
     let nodes = ts.nodes;
@@ -200,7 +201,7 @@ fn bad_in_last(image: &[u32], ts: Tables) -> Found
 
 // Code 4: "a record field breaks its rule; an index or start + count leaves its table".
 pub fn bad_record_field(image: &[u32], ts: Tables) -> Found
-    requires { ⌜ AllSmall ts ⌝ }
+    requires { ⌜ AllInside (now image) ts ⌝ }
     ensures { λ r. ⌜ r ≡ firstBad (recordsJudged (now (image .entry)) ts) ⌝ }
 {
     or_else(bad_in_first(image, ts), bad_in_last(image, ts))

@@ -1,15 +1,16 @@
 // Code 2, the header's words; and how words are looked at in turn.
 ghost use mathlib.Core.Path.{_≡_};
-ghost use Prim.Native.Nat.{_+_, _<_};
+ghost use Prim.Native.Nat.{_+_, _≤_, _<_};
+ghost use lib.ListN.{length};
 ghost use Rattle.ground.specs.Judged.{firstBad};
-ghost use Rattle.layout.specs.Layout.{headerNodes};
+ghost use Rattle.layout.specs.Layout.{headerNodes, headerSize};
 ghost use Rattle.layout.specs.Tables.{word};
 ghost use Rattle.header.specs.Words.{atMost, clear};
 ghost use Rattle.header.specs.Header.{headerJudged, sizeRules, countRules};
 ghost use Rattle.header.specs.InTurn.{orUnless, orWords, wordsAt, fourRules, fourWithin};
 use ground::Found;
 use ground::or_else;
-use layout::word;
+use layout::word_inside;
 
 // What was found before, or the place of a word that is not good.
 pub fn or_unless(before: Found, good: bool, place: usize) -> Found
@@ -24,20 +25,21 @@ pub fn or_unless(before: Found, good: bool, place: usize) -> Found
 
 // A number that is over its limit.
 pub fn at_most(before: Found, image: &[u32], place: usize, limit: u32) -> Found
+    requires { ⌜ place < length (now image) ⌝ }
     ensures { λ r. ⌜ r ≡ orUnless before (atMost (word (now (image .entry)) place) limit) place ⌝ }
 {
-    or_unless(before, word(image, place) <= limit, place)
+    or_unless(before, word_inside(image, place) <= limit, place)
 }
 
 // Whether four numbers in a row keep one limit.
 fn four_within(image: &[u32], at: usize, limit: u32) -> bool
-    requires { ⌜ at < 0x20000000000 ⌝ }
+    requires { ⌜ at + 4 ≤ length (now image) ⌝ }
     ensures { λ r. ⌜ r ≡ fourWithin (wordsAt (now (image .entry)) at) limit ⌝ }
 {
-    if word(image, at) <= limit {
-        if word(image, at + 1) <= limit {
-            if word(image, at + 2) <= limit {
-                return word(image, at + 3) <= limit;
+    if word_inside(image, at) <= limit {
+        if word_inside(image, at + 1) <= limit {
+            if word_inside(image, at + 2) <= limit {
+                return word_inside(image, at + 3) <= limit;
             }
         }
     }
@@ -46,7 +48,7 @@ fn four_within(image: &[u32], at: usize, limit: u32) -> bool
 
 // Four numbers in a row with one limit. Nearly always all keep it, so that is asked first.
 pub fn four_at_most(before: Found, image: &[u32], at: usize, limit: u32) -> Found
-    requires { ⌜ at < 0x20000000000 ⌝ }
+    requires { ⌜ at + 4 ≤ length (now image) ⌝ }
     ensures { λ r. ⌜ r ≡ orWords before at 0 (fourRules (wordsAt (now (image .entry)) at) limit) ⌝ }
 {
     if four_within(image, at, limit) {
@@ -60,14 +62,15 @@ pub fn four_at_most(before: Found, image: &[u32], at: usize, limit: u32) -> Foun
 
 // Flags of which a spare bit, one below the lowest in use, is set.
 pub fn clear(before: Found, image: &[u32], place: usize, lowest: u32) -> Found
-    requires { ⌜ 0 < lowest ⌝ }
+    requires { ⌜ (place < length (now image)) × (0 < lowest) ⌝ }
     ensures { λ r. ⌜ r ≡ orUnless before (clear (word (now (image .entry)) place) lowest) place ⌝ }
 {
-    or_unless(before, word(image, place) % lowest == 0, place)
+    or_unless(before, word_inside(image, place) % lowest == 0, place)
 }
 
 // Width, height, run capacity and flags.
 fn bad_sizes(image: &[u32]) -> Found
+    requires { ⌜ headerSize ≤ length (now image) ⌝ }
     ensures { λ r. ⌜ r ≡ orWords Found.None 0 0 (sizeRules (now (image .entry))) ⌝ }
 {
     let width = at_most(Found::None, image, layout::HEADER_WIDTH, layout::MAX_WIDTH);
@@ -78,6 +81,7 @@ fn bad_sizes(image: &[u32]) -> Found
 
 // The counts of the tables.
 fn bad_counts(before: Found, image: &[u32]) -> Found
+    requires { ⌜ headerSize ≤ length (now image) ⌝ }
     ensures { λ r. ⌜ r ≡ orWords before 0 headerNodes (countRules (now (image .entry))) ⌝ }
 {
     let things = four_at_most(before, image, layout::HEADER_NODES, layout::MAX_THINGS);
@@ -89,6 +93,7 @@ fn bad_counts(before: Found, image: &[u32]) -> Found
 
 // Code 2: "header number over its limit or spare bit set".
 pub fn bad_header(image: &[u32]) -> Found
+    requires { ⌜ headerSize ≤ length (now image) ⌝ }
     ensures { λ r. ⌜ r ≡ firstBad (headerJudged (now (image .entry))) ⌝ }
 {
     bad_counts(bad_sizes(image), image)

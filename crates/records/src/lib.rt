@@ -2,8 +2,10 @@
 ghost use mathlib.Core.Path.{_≡_};
 ghost use Prim.Native.Nat.{_+_, _≤_, _<_};
 ghost use lib.Dec.{ltb};
+ghost use lib.ListN.{length};
 ghost use Rattle.ground.specs.Judged.{firstBad, judgedWords};
 ghost use Rattle.layout.specs.Layout.{nodeLoopX, elementKind, elementIndex};
+ghost use Rattle.layout.specs.Layout.{nodeSize, subgraphSize, labelSize, elementSize, pointSize, glyphSize, rangeSize};
 ghost use Rattle.layout.specs.Tables.{word};
 ghost use Rattle.image.specs.Records.{elementKindOf, elementKindNumber};
 ghost use Rattle.header.specs.Words.{atMost, inside};
@@ -21,22 +23,31 @@ use image::ElementKind;
 use layout::MAX_COORDINATE;
 use layout::MAX_SCALAR;
 use layout::flag;
-use layout::word;
+use layout::word_inside;
 
 // A span, given by the offsets of its start and its count, that leaves its table.
 fn inside(before: Found, image: &[u32], at: usize, start: usize, count: usize, held: usize) -> Found
-    requires { ⌜ (at < 0x20000000000) × (start ≤ 16) × (count ≤ 16) ⌝ }
+    requires { ⌜ (at + start < length (now image)) × (at + count < length (now image)) ⌝ }
     ensures { λ r. ⌜ r ≡ orUnless before (inside (word (now (image .entry)) (at + start)) (word (now (image .entry)) (at + count)) held) (at + start) ⌝ }
 {
-    let good = span_good(word(image, at + start), word(image, at + count), held);
+    let good = span_good(
+        word_inside(image, at + start),
+        word_inside(image, at + count),
+        held,
+    );
     or_unless(before, good, at + start)
 }
 
 // An index that leaves its table.
 fn below(before: Found, image: &[u32], place: usize, held: usize) -> Found
+    requires { ⌜ place < length (now image) ⌝ }
     ensures { λ r. ⌜ r ≡ orUnless before (ltb (word (now (image .entry)) place) held) place ⌝ }
 {
-    or_unless(before, ground::number(word(image, place)) < held, place)
+    or_unless(
+        before,
+        ground::number(word_inside(image, place)) < held,
+        place,
+    )
 }
 
 // "loop x, loop y (both 0 without the bit)"
@@ -52,23 +63,24 @@ fn loop_good(flags: u32, n: u32) -> bool
 
 // A loop coordinate that breaks its rule.
 fn bad_loop_word(before: Found, image: &[u32], flags: u32, place: usize) -> Found
+    requires { ⌜ place < length (now image) ⌝ }
     ensures { λ r. ⌜ r ≡ orUnless before (loopGood flags (word (now (image .entry)) place)) place ⌝ }
 {
-    or_unless(before, loop_good(flags, word(image, place)), place)
+    or_unless(before, loop_good(flags, word_inside(image, place)), place)
 }
 
 fn bad_loop(before: Found, image: &[u32], at: usize) -> Found
-    requires { ⌜ at < 0x20000000000 ⌝ }
+    requires { ⌜ at + nodeSize ≤ length (now image) ⌝ }
     ensures { λ r. ⌜ r ≡ orWords before at nodeLoopX (loopRules (wordsAt (now (image .entry)) at)) ⌝ }
 {
-    let flags = word(image, at + layout::NODE_FLAGS);
+    let flags = word_inside(image, at + layout::NODE_FLAGS);
     let x = bad_loop_word(before, image, flags, at + layout::NODE_LOOP_X);
     bad_loop_word(x, image, flags, at + layout::NODE_LOOP_Y)
 }
 
 // A node, where so many glyphs are held.
 pub fn bad_node(image: &[u32], at: usize, glyphs: usize) -> Found
-    requires { ⌜ at < 0x20000000000 ⌝ }
+    requires { ⌜ at + nodeSize ≤ length (now image) ⌝ }
     ensures { λ r. ⌜ r ≡ firstBad (judgedWords at 0 (nodeRules glyphs (wordsAt (now (image .entry)) at))) ⌝ }
 {
     let extent = four_at_most(Found::None, image, at, MAX_COORDINATE);
@@ -86,7 +98,7 @@ pub fn bad_node(image: &[u32], at: usize, glyphs: usize) -> Found
 
 // A subgraph, where so many glyphs are held.
 pub fn bad_subgraph(image: &[u32], at: usize, glyphs: usize) -> Found
-    requires { ⌜ at < 0x20000000000 ⌝ }
+    requires { ⌜ at + subgraphSize ≤ length (now image) ⌝ }
     ensures { λ r. ⌜ r ≡ firstBad (judgedWords at 0 (subgraphRules glyphs (wordsAt (now (image .entry)) at))) ⌝ }
 {
     let extent = four_at_most(Found::None, image, at, MAX_COORDINATE);
@@ -108,7 +120,7 @@ pub fn bad_subgraph(image: &[u32], at: usize, glyphs: usize) -> Found
 
 // A placed label, where so many edges are held.
 pub fn bad_placed_label(image: &[u32], at: usize, edges: usize) -> Found
-    requires { ⌜ at < 0x20000000000 ⌝ }
+    requires { ⌜ at + labelSize ≤ length (now image) ⌝ }
     ensures { λ r. ⌜ r ≡ firstBad (judgedWords at 0 (placedLabelRules edges (wordsAt (now (image .entry)) at))) ⌝ }
 {
     let edge = below(Found::None, image, at + layout::LABEL_EDGE, edges);
@@ -130,6 +142,7 @@ fn thing_count(nodes: usize, edges: usize, subgraphs: usize, kind: ElementKind) 
 
 // "kind (0 Node, 1 Edge, 2 Subgraph)"
 fn bad_kind(image: &[u32], place: usize) -> Found
+    requires { ⌜ place < length (now image) ⌝ }
     ensures { λ r. ⌜ r ≡ orUnless Found.None (atMost (word (now (image .entry)) place) (elementKindNumber ElementKind.Subgraph)) place ⌝ }
 {
     at_most(
@@ -149,17 +162,17 @@ fn bad_index(
     edges: usize,
     subgraphs: usize,
 ) -> Found
-    requires { ⌜ at < 0x20000000000 ⌝ }
+    requires { ⌜ at + elementSize ≤ length (now image) ⌝ }
     ensures { λ r. ⌜ r ≡ orUnless before (ltb (word (now (image .entry)) (at + elementIndex)) (thingCount nodes edges subgraphs (elementKindOf (word (now (image .entry)) (at + elementKind))))) (at + elementIndex) ⌝ }
 {
-    let kind = ElementKind::of(word(image, at + layout::ELEMENT_KIND));
+    let kind = ElementKind::of(word_inside(image, at + layout::ELEMENT_KIND));
     let held = thing_count(nodes, edges, subgraphs, kind);
     below(before, image, at + layout::ELEMENT_INDEX, held)
 }
 
 // An element, where so many nodes, edges and subgraphs are held.
 pub fn bad_element(image: &[u32], at: usize, nodes: usize, edges: usize, subgraphs: usize) -> Found
-    requires { ⌜ at < 0x20000000000 ⌝ }
+    requires { ⌜ at + elementSize ≤ length (now image) ⌝ }
     ensures { λ r. ⌜ r ≡ firstBad (judgedWords at 0 (elementRules nodes edges subgraphs (wordsAt (now (image .entry)) at))) ⌝ }
 {
     let kind = bad_kind(image, at + layout::ELEMENT_KIND);
@@ -169,7 +182,7 @@ pub fn bad_element(image: &[u32], at: usize, nodes: usize, edges: usize, subgrap
 }
 
 pub fn bad_point(image: &[u32], at: usize) -> Found
-    requires { ⌜ at < 0x20000000000 ⌝ }
+    requires { ⌜ at + pointSize ≤ length (now image) ⌝ }
     ensures { λ r. ⌜ r ≡ firstBad (judgedWords at 0 (pointRules (wordsAt (now (image .entry)) at))) ⌝ }
 {
     let x = at_most(Found::None, image, at + layout::POINT_X, MAX_COORDINATE);
@@ -184,10 +197,10 @@ fn scalar_good(n: u32) -> bool
 }
 
 pub fn bad_glyph(image: &[u32], at: usize) -> Found
-    requires { ⌜ at < 0x20000000000 ⌝ }
+    requires { ⌜ at + glyphSize ≤ length (now image) ⌝ }
     ensures { λ r. ⌜ r ≡ firstBad (judgedWords at 0 (glyphRules (wordsAt (now (image .entry)) at))) ⌝ }
 {
-    let good = scalar_good(word(image, at + layout::GLYPH_VALUE));
+    let good = scalar_good(word_inside(image, at + layout::GLYPH_VALUE));
     or_unless(Found::None, good, at + layout::GLYPH_VALUE)
 }
 
@@ -199,11 +212,11 @@ fn width_good(n: u32) -> bool
 }
 
 pub fn bad_range_words(image: &[u32], at: usize) -> Found
-    requires { ⌜ at < 0x20000000000 ⌝ }
+    requires { ⌜ at + rangeSize ≤ length (now image) ⌝ }
     ensures { λ r. ⌜ r ≡ firstBad (judgedWords at 0 (rangeRules (wordsAt (now (image .entry)) at))) ⌝ }
 {
     let first = at_most(Found::None, image, at + layout::RANGE_FIRST, MAX_SCALAR);
     let last = at_most(first, image, at + layout::RANGE_LAST, MAX_SCALAR);
-    let good = width_good(word(image, at + layout::RANGE_WIDTH));
+    let good = width_good(word_inside(image, at + layout::RANGE_WIDTH));
     or_unless(last, good, at + layout::RANGE_WIDTH)
 }

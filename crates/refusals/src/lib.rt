@@ -1,6 +1,7 @@
 // The check: codes 1 to 10 of document 01's "Refusals in order", with place and run count, for every slice of words.
 ghost use mathlib.Core.Path.{_≡_};
 ghost use Rattle.ground.specs.Judged.{firstBad};
+ghost use Rattle.layout.specs.Inside.{AllInside};
 ghost use Rattle.layout.specs.Small.{AllSmall};
 ghost use Rattle.layout.specs.Tables.{tablesOf};
 ghost use Rattle.listing.specs.Computed.{Ready};
@@ -91,7 +92,7 @@ fn bad_range(image: &[u32], ts: Tables) -> Found
 
 // Codes 4 to 6.
 fn check_content(image: &[u32], ts: Tables) -> Verdict
-    requires { ⌜ (ts ≡ tablesOf (now image)) × AllSmall ts ⌝ }
+    requires { ⌜ (ts ≡ tablesOf (now image)) × AllSmall ts × AllInside (now image) ts ⌝ }
     ensures { λ r. ⌜ r ≡ firstBroken (contentRules (now (image .entry)) ts) ⌝ }
 {
     let field = fields::bad_record_field(image, ts);

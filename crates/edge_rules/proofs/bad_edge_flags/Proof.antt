@@ -4,7 +4,7 @@ use Rattle.edge_rules.proofs.bad_edge_flags.Statement.{statement}
 use Rattle.edge_rules.proofs.bad_edge_flags.Tie as tie
 
 returns : tie.Need-returns
-returns c = rw (c .or-unless .ensures, c .before .edge-flags-good .ensures, c .before .before .word .ensures)
+returns c = rw (c .or-unless .ensures, c .before .edge-flags-good .ensures, c .before .before .word-inside .ensures)
 
 pub bad-edge-flags-spec : {M : Type 1} → statement M
 bad-edge-flags-spec =

@@ -13,9 +13,9 @@ returns c =
       c .before .label-count-good .ensures,
       c .before .before .or-unless .ensures,
       judged .label-start-good .ensures,
-      judged .before .word3 .ensures,
-      judged .before .before .word2 .ensures,
-      judged .before .before .before .word .ensures,
+      judged .before .word-inside3 .ensures,
+      judged .before .before .word-inside2 .ensures,
+      judged .before .before .before .word-inside .ensures,
     )
 
 pub bad-edge-label-spec : {M : Type 1} → statement M

@@ -9,10 +9,10 @@ returns c =
     rw (
       c .path-good .ensures,
       c .before .path-number .ensures,
-      read .word4 .ensures,
-      read .before .word3 .ensures,
-      read .before .before .word2 .ensures,
-      read .before .before .before .word .ensures,
+      read .word-inside4 .ensures,
+      read .before .word-inside3 .ensures,
+      read .before .before .word-inside2 .ensures,
+      read .before .before .before .word-inside .ensures,
     )
 
 pub path-at-spec : {M : Type 1} → statement M

@@ -1,6 +1,7 @@
 -- `bad_edges` finds the first word of an edge that breaks its rule. The invariant: what is found from record k on is what is found in all. The measure: how many are left.
 use borrow.Author.Needs.{needs}
 use Prim.Native.Nat.{_-_}
+use Rattle.layout.proofs.Inside.{words-inside}
 use Rattle.fields.specs.Left.{FromRecord}
 use Rattle.edge_rules.specs.Edge.{edgeRules}
 use Rattle.fields.proofs.Laws.{through}
@@ -21,7 +22,7 @@ bad-edges-spec =
     μ-loop
     (λ c. search through)
     (λ c κs. search needs)
-    (λ c κs. search needs)
+    (λ c κs. search (words-inside, needs))
     (λ c. search needs)
     (λ c. search (through, needs))
     (λ c. search needs)

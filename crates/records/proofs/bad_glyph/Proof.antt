@@ -8,7 +8,7 @@ use Rattle.records.proofs.bad_glyph.Tie as tie
 
 returns : tie.Need-returns
 unfolding glyphRules orWords
-returns c = in-turn _ _ _ _ (rw (c .or-unless .ensures, c .before .scalar-good .ensures, c .before .before .word .ensures))
+returns c = in-turn _ _ _ _ (rw (c .or-unless .ensures, c .before .scalar-good .ensures, c .before .before .word-inside .ensures))
 
 pub bad-glyph-spec : {M : Type 1} → statement M
 bad-glyph-spec =

@@ -5,7 +5,7 @@ use Rattle.records.proofs.bad_index.Tie as tie
 
 returns : tie.Need-returns
 returns c =
-    rw (c .below .ensures, c .before .thing-count .ensures, c .before .before .of .ensures, c .before .before .before .word .ensures)
+    rw (c .below .ensures, c .before .thing-count .ensures, c .before .before .of .ensures, c .before .before .before .word-inside .ensures)
 
 pub bad-index-spec : {M : Type 1} → statement M
 bad-index-spec =

@@ -6,7 +6,7 @@ use Rattle.records.proofs.bad_loop.Tie as tie
 
 returns : tie.Need-returns
 unfolding orWords
-returns c = rw (c .bad-loop-word2 .ensures, c .before .bad-loop-word .ensures, c .before .before .word .ensures)
+returns c = rw (c .bad-loop-word2 .ensures, c .before .bad-loop-word .ensures, c .before .before .word-inside .ensures)
 
 pub bad-loop-spec : {M : Type 1} → statement M
 bad-loop-spec =

@@ -14,7 +14,7 @@ returns c =
     (rw (
       c .or-unless .ensures,
       c .before .width-good .ensures,
-      read .word .ensures,
+      read .word-inside .ensures,
       read .before .at-most2 .ensures,
       read .before .before .at-most .ensures,
     ))

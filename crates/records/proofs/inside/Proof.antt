@@ -5,7 +5,7 @@ use Rattle.records.proofs.inside.Tie as tie
 
 returns : tie.Need-returns
 returns c =
-    rw (c .or-unless .ensures, c .before .span-good .ensures, c .before .before .word2 .ensures, c .before .before .before .word .ensures)
+    rw (c .or-unless .ensures, c .before .span-good .ensures, c .before .before .word-inside2 .ensures, c .before .before .before .word-inside .ensures)
 
 pub inside-spec : {M : Type 1} → statement M
 inside-spec =

@@ -1,5 +1,6 @@
 -- `check_form` refuses with code 1, then 2, then 3, then goes on.
 use borrow.Author.Needs.{needs}
+use Rattle.layout.proofs.Inside.{all-inside}
 use Rattle.refusals.proofs.Laws.{form-short, form-header, form-length, form-content}
 use Rattle.refusals.proofs.check_form.Statement.{statement}
 use Rattle.refusals.proofs.check_form.Tie as tie
@@ -28,5 +29,5 @@ check-form-spec =
     (λ c κs. search needs)
     (λ c κs. search needs)
     returns-3
-    (λ c κs. search needs)
+    (λ c κs. search (all-inside, needs))
     returns-4)
