@@ -14,7 +14,7 @@ use Rattle.rows.specs.declared.Rows.{Rows}
 use Rattle.rows.specs.declared.Window.{Window}
 use Rattle.rows.specs.Window.{joinRows}
 use Rattle.rows.specs.Computed.{windowRows}
-use Rattle.rows.proofs.Theorems.{join-assoc}
+use Rattle.rows.proofs.Theorems.{join-assoc, join-none}
 use Rattle.flow.specs.declared.Bend.{Bend}
 use Rattle.flow.specs.declared.Leg.{Leg}
 use Rattle.flow.specs.declared.Piece.{Piece}
@@ -178,9 +178,15 @@ module _ (window : Window) where
     unfolding directY lineOf
     direct-reached from to p f t = p ∙ rw (f, t) (sym (with-vertical window reach _))
 
+    no-start : (trunk : Reach) (y : ℕ) → trunk ≡ withRows trunk (rowIf window false y)
+    unfolding withRows
+    no-start trunk y = rw (join-none (trunk .rows))
+
     pub corner-reached :
-        (place bend x1 y1 x2 y2 : ℕ) →
-        r ≡ bentReach reach window true false bend x1 y1 x2 y2 →
+        (place bend x1 y1 x2 y2 : ℕ) (trunk crossed : Reach) →
+        r ≡ withRows crossed (verticalRows window bend y2) →
+        crossed ≡ joinReach trunk (crossingReach window bend x1 x2) →
+        trunk ≡ withRows reach (verticalRows window y1 bend) →
         bend ≡ place →
         x1 ≡ e .«from_x» →
         y1 ≡ e .«from_y» →
@@ -188,8 +194,9 @@ module _ (window : Window) where
         y2 ≡ e .«to_y» →
         r ≡ joinReach reach (reachOf window (cornerY e place))
     unfolding cornerY cornerBend
-    corner-reached place bend x1 y1 x2 y2 p n a b c d =
-        p ∙ rw (n, a, b, c, d) (sym (bent-reached (e .weight) (signY e) (cornerBend e place) reach))
+    corner-reached place bend x1 y1 x2 y2 trunk crossed p q t n a b c d =
+        bent-joined reach true false bend x1 y1 x2 y2 trunk trunk crossed r p q (no-start trunk y1) t
+        ∙ rw (n, a, b, c, d) (sym (bent-reached (e .weight) (signY e) (cornerBend e place) reach))
 
     side-pieces :
         (channel start end : ℕ) →

@@ -75,7 +75,10 @@ pub fn corner_reach(reach: Reach, window: Window, e: Edge, bend: u32) -> Reach
     let y1 = ground::number(e.from_y);
     let x2 = ground::number(e.to_x);
     let y2 = ground::number(e.to_y);
-    bent_reach(reach, window, true, false, row, x1, y1, x2, y2)
+    // it has a trunk and strokes no start, so that neither is asked
+    let trunk = touch::with_vertical(reach, window, y1, row);
+    let crossed = crossing_reach(trunk, window, row, x1, x2);
+    touch::with_vertical(crossed, window, row, y2)
 }
 
 // What is reached with two crossings, the channel between them, and a tail.
