@@ -1,18 +1,17 @@
--- Words looked at in turn: what is found is the first that is not good, and four that are all good.
+-- Words looked at in turn: what is found is the first that is not good, and of four the first over their limit.
 use native.Mathlib.Nat.{add-zero}
 use Prim.Native.Nat.{ℕ, suc, _+_, _≤_, _<_}
 use mathlib.Core.Bool.{Bool, true, false}
 use mathlib.Core.List.{List, [], _∷_}
 use mathlib.Core.Path.{_≡_, refl, sym, _∙_}
-use lib.Dec.{leb}
 use borrow.Author.Tests.{le-leb, lt-leb}
-use Rattle.ground.proofs.Each.{and-left, and-right}
+use Rattle.ground.specs.First.{orElse}
 use Rattle.ground.specs.Judged.{judgedWords, firstBad}
 use Rattle.ground.specs.declared.Found.{Found}
 use Rattle.ground.specs.declared.Found.the-variants as found
 use Rattle.layout.specs.Tables.{word}
 use Rattle.header.specs.Words.{atMost}
-use Rattle.header.specs.InTurn.{orWords, wordsAt, fourRules, fourWithin}
+use Rattle.header.specs.InTurn.{orWords, wordsAt, fourRules}
 
 -- what was found first stays
 kept : (p at i : ℕ) (rules : List Bool) → orWords (found.At p) at i rules ≡ found.At p
@@ -30,35 +29,37 @@ all-words at i (false ∷ rest) = kept (at + i) at (suc i) rest
 pub in-turn : (r : Found) (at i : ℕ) (rules : List Bool) → r ≡ orWords found.None at i rules → r ≡ firstBad (judgedWords at i rules)
 in-turn r at i rules e = e ∙ all-words at i rules
 
--- Four that keep their limit add nothing to what was found before.
-pub four-kept :
-    (before : Found) (at : ℕ) (w : ℕ → ℕ) (limit : ℕ) (all : Bool) → all ≡ fourWithin w limit → all ≡ true →
-    before ≡ orWords before at 0 (fourRules w limit)
-unfolding orWords
-four-kept before at w limit all e h =
-    let t = sym e ∙ h in
-    let u = and-right (atMost (w 0) limit) _ t in
-    let v = and-right (atMost (w 1) limit) _ u in
-    rw (
-      and-left (atMost (w 0) limit) _ t,
-      and-left (atMost (w 1) limit) _ u,
-      and-left (atMost (w 2) limit) _ v,
-      and-right (atMost (w 2) limit) _ v,
-    )
+-- and so does what was found before a word, or else the word
+stays : (before : Found) (p at i : ℕ) (rules : List Bool) → orWords (orElse before (found.At p)) at i rules ≡ orElse before (found.At p)
+stays found.None p at i rules = kept p at i rules
+stays (found.At q) p at i rules = kept q at i rules
 
--- Of four the first, the second, the third or the last decides.
+-- Of four the first, the second, the third or the last is over the limit, or none is.
 
-module _ (image : List ℕ) (at limit one : ℕ) (e : one ≡ word image at) where
-  pub over-first : limit < one → false ≡ fourWithin (wordsAt image at) limit
-  over-first p = rw (add-zero, ← e, lt-leb _ _ p)
+module _ (image : List ℕ) (before r : Found) (at limit one : ℕ) (e : one ≡ word image at) where
+  abbrev rule : ℕ → Bool
+  rule i = atMost (wordsAt image at i) limit
+
+  pub over-first : r ≡ orElse before (found.At at) → limit < one → r ≡ orWords before at 0 (fourRules (wordsAt image at) limit)
+  unfolding orWords
+  over-first h p = rw (add-zero, ← e, lt-leb _ _ p) (h ∙ sym (stays before at at 1 (rule 1 ∷ rule 2 ∷ rule 3 ∷ [])))
 
   module _ (two : ℕ) (p : one ≤ limit) (f : two ≡ word image (at + 1)) where
-    pub over-second : limit < two → false ≡ fourWithin (wordsAt image at) limit
-    over-second q = rw (add-zero, ← e, le-leb _ _ p, ← f, lt-leb _ _ q)
+    pub over-second : r ≡ orElse before (found.At (at + 1)) → limit < two → r ≡ orWords before at 0 (fourRules (wordsAt image at) limit)
+    unfolding orWords
+    over-second h q = rw (add-zero, ← e, le-leb _ _ p, ← f, lt-leb _ _ q) (h ∙ sym (stays before (at + 1) at 2 (rule 2 ∷ rule 3 ∷ [])))
 
     module _ (three : ℕ) (q : two ≤ limit) (g : three ≡ word image (at + 2)) where
-      pub over-third : limit < three → false ≡ fourWithin (wordsAt image at) limit
-      over-third r = rw (add-zero, ← e, le-leb _ _ p, ← f, le-leb _ _ q, ← g, lt-leb _ _ r)
+      pub over-third : r ≡ orElse before (found.At (at + 2)) → limit < three → r ≡ orWords before at 0 (fourRules (wordsAt image at) limit)
+      unfolding orWords
+      over-third h s = rw (add-zero, ← e, le-leb _ _ p, ← f, le-leb _ _ q, ← g, lt-leb _ _ s) (h ∙ sym (stays before (at + 2) at 3 (rule 3 ∷ [])))
 
-      pub by-last : (four : ℕ) → three ≤ limit → four ≡ word image (at + 3) → leb four limit ≡ fourWithin (wordsAt image at) limit
-      by-last four r h = rw (add-zero, ← e, le-leb _ _ p, ← f, le-leb _ _ q, ← g, le-leb _ _ r, ← h)
+      module _ (four : ℕ) (s : three ≤ limit) (k : four ≡ word image (at + 3)) where
+        pub over-last : r ≡ orElse before (found.At (at + 3)) → limit < four → r ≡ orWords before at 0 (fourRules (wordsAt image at) limit)
+        unfolding orWords
+        over-last h u =
+            rw (add-zero, ← e, le-leb _ _ p, ← f, le-leb _ _ q, ← g, le-leb _ _ s, ← k, lt-leb _ _ u) (h ∙ sym (stays before (at + 3) at 4 []))
+
+        pub over-none : r ≡ before → four ≤ limit → r ≡ orWords before at 0 (fourRules (wordsAt image at) limit)
+        unfolding orWords
+        over-none h u = rw (add-zero, ← e, le-leb _ _ p, ← f, le-leb _ _ q, ← g, le-leb _ _ s, ← k, le-leb _ _ u) h

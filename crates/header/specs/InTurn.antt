@@ -1,6 +1,6 @@
 -- For the proofs alone: words looked at in turn, with what was found before them.
 use Prim.Native.Nat.{ℕ, suc, _+_}
-use mathlib.Core.Bool.{Bool, true, false, _&&_}
+use mathlib.Core.Bool.{Bool, true, false}
 use mathlib.Core.List.{List, [], _∷_}
 use Rattle.ground.specs.First.{orElse}
 use Rattle.ground.specs.declared.Found.{Found}
@@ -25,7 +25,3 @@ wordsAt image at offset = word image (at + offset)
 -- four numbers in a row with one limit
 abbrev pub fourRules : (ℕ → ℕ) → ℕ → List Bool
 fourRules w limit = atMost (w 0) limit ∷ atMost (w 1) limit ∷ atMost (w 2) limit ∷ atMost (w 3) limit ∷ []
-
--- whether all four keep it
-abbrev pub fourWithin : (ℕ → ℕ) → ℕ → Bool
-fourWithin w limit = atMost (w 0) limit && (atMost (w 1) limit && (atMost (w 2) limit && atMost (w 3) limit))

@@ -7,7 +7,7 @@ ghost use Rattle.layout.specs.Layout.{headerNodes, headerSize};
 ghost use Rattle.layout.specs.Tables.{word};
 ghost use Rattle.header.specs.Words.{atMost, clear};
 ghost use Rattle.header.specs.Header.{headerJudged, sizeRules, countRules};
-ghost use Rattle.header.specs.InTurn.{orUnless, orWords, wordsAt, fourRules, fourWithin};
+ghost use Rattle.header.specs.InTurn.{orUnless, orWords, wordsAt, fourRules};
 use ground::Found;
 use ground::or_else;
 use layout::word_inside;
@@ -31,33 +31,24 @@ pub fn at_most(before: Found, image: &[u32], place: usize, limit: u32) -> Found
     or_unless(before, word_inside(image, place) <= limit, place)
 }
 
-// Whether four numbers in a row keep one limit.
-fn four_within(image: &[u32], at: usize, limit: u32) -> bool
-    requires { ⌜ at + 4 ≤ length (now image) ⌝ }
-    ensures { λ r. ⌜ r ≡ fourWithin (wordsAt (now (image .entry)) at) limit ⌝ }
-{
-    if word_inside(image, at) <= limit {
-        if word_inside(image, at + 1) <= limit {
-            if word_inside(image, at + 2) <= limit {
-                return word_inside(image, at + 3) <= limit;
-            }
-        }
-    }
-    false
-}
-
-// Four numbers in a row with one limit. Nearly always all keep it, so that is asked first.
+// Four numbers in a row with one limit.
 pub fn four_at_most(before: Found, image: &[u32], at: usize, limit: u32) -> Found
     requires { ⌜ at + 4 ≤ length (now image) ⌝ }
     ensures { λ r. ⌜ r ≡ orWords before at 0 (fourRules (wordsAt (now (image .entry)) at) limit) ⌝ }
 {
-    if four_within(image, at, limit) {
-        return before;
+    if limit < word_inside(image, at) {
+        return or_else(before, Found::At(at));
     }
-    let one = at_most(before, image, at, limit);
-    let two = at_most(one, image, at + 1, limit);
-    let three = at_most(two, image, at + 2, limit);
-    at_most(three, image, at + 3, limit)
+    if limit < word_inside(image, at + 1) {
+        return or_else(before, Found::At(at + 1));
+    }
+    if limit < word_inside(image, at + 2) {
+        return or_else(before, Found::At(at + 2));
+    }
+    if limit < word_inside(image, at + 3) {
+        return or_else(before, Found::At(at + 3));
+    }
+    before
 }
 
 // Flags of which a spare bit, one below the lowest in use, is set.
