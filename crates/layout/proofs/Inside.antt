@@ -6,7 +6,7 @@ use mathlib.Core.Path.{_≡_, refl, _∙_}
 use lib.ListN.{length}
 use Rattle.layout.specs.declared.Table.{Table}
 use Rattle.layout.specs.declared.Tables.{Tables}
-use Rattle.layout.specs.Tables.{recordAt, tableEnd, tablesOf}
+use Rattle.layout.specs.Tables.{recordAt, placeOf, tableEnd, tablesOf}
 use Rattle.layout.specs.Small.{AllSmall}
 use Rattle.layout.specs.Inside.{Inside, AllInside}
 use Rattle.layout.proofs.Laws.{record-inside}
@@ -15,6 +15,12 @@ use Rattle.layout.proofs.Laws.{record-inside}
 pub words-inside :
     (image : List ℕ) (size : ℕ) (table : Table) (k at : ℕ) → Inside image size table → k < table .count → at ≡ recordAt table k → at + size ≤ length image
 words-inside image size table k at inside h e = omega (arith, record-inside table (k + 1) (omega arith))
+
+-- a field of record k, which stands at `at`
+pub place-inside :
+    (image : List ℕ) (table : Table) (k offset at : ℕ) →
+    tableEnd table ≤ length image → k < table .count → offset < table .size → at ≡ placeOf table k offset → at < length image
+place-inside image table k offset at ends h p e = omega (arith, record-inside table (k + 1) (omega arith))
 
 tables-inside : (image : List ℕ) → AllSmall (tablesOf image) → length image ≡ tableEnd (tablesOf image .ranges) → AllInside image (tablesOf image)
 unfolding tablesOf

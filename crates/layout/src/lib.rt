@@ -1,5 +1,5 @@
 // The layout of a sheet image: its numbers by name, its words, where its tables stand, and which field stands at a place. Every reader but `word_inside`
-// takes any words: a word past the end reads 0.
+// and `field_inside` takes any words: a word past the end reads 0.
 ghost use mathlib.Core.Path.{_≡_};
 ghost use Prim.Native.Nat.{_+_, _*_, _≤_, _<_};
 ghost use lib.ListN.{length};
@@ -379,6 +379,14 @@ pub fn field(image: &[u32], table: Table, k: usize, offset: usize) -> u32
     ensures { λ r. ⌜ r ≡ field (now (image .entry)) table k offset ⌝ }
 {
     word(image, place_of(table, k, offset))
+}
+
+// A field of a record that is there.
+pub fn field_inside(image: &[u32], table: Table, k: usize, offset: usize) -> u32
+    requires { ⌜ Small table × (tableEnd table ≤ length (now image)) × (k < table .count) × (offset < table .size) ⌝ }
+    ensures { λ r. ⌜ r ≡ field (now (image .entry)) table k offset ⌝ }
+{
+    word_inside(image, place_of(table, k, offset))
 }
 
 // What a table holds.
