@@ -3,7 +3,8 @@ ghost use mathlib.Core.Path.{_≡_};
 ghost use Prim.Native.Nat.{_+_, _*_, _-_, _≤_, _<_};
 ghost use lib.ListN.{length, getD, set, replicate};
 ghost use Rattle.ground.specs.Judged.{firstBad};
-ghost use Rattle.layout.specs.Layout.{maxElements};
+ghost use Rattle.layout.specs.Layout.{maxElements, elementSize};
+ghost use Rattle.layout.specs.Inside.{Inside};
 ghost use Rattle.layout.specs.Small.{AllSmall};
 ghost use Rattle.elements.specs.Elements.{firstRow, lastRow, rowsBroken, orderJudged, ElementsGood};
 ghost use Rattle.elements.specs.Slots.{slotCount, slotOf, elementSlot, Listed};
@@ -14,6 +15,7 @@ use layout::ELEMENT_KIND;
 use layout::ELEMENT_LAST_ROW;
 use layout::Tables;
 use layout::field;
+use layout::field_inside;
 
 // How many slots there are: a word for each thing, of which each kind has at most so many.
 pub const SLOT_COUNT: usize = layout::ELEMENT_KINDS * THINGS;
@@ -30,12 +32,12 @@ pub fn slot_of(kind: u32, index: usize) -> usize
 }
 
 fn element_slot(image: &[u32], ts: Tables, k: usize) -> usize
-    requires { ⌜ AllSmall ts × (k < 4294967296) ⌝ }
+    requires { ⌜ Inside (now image) elementSize (ts .elements) × (k < ts .elements .count) ⌝ }
     ensures { λ r. ⌜ r ≡ elementSlot (now (image .entry)) ts k ⌝ }
 {
     let elements = ts.elements;
-    let index = ground::number(field(image, elements, k, ELEMENT_INDEX));
-    slot_of(field(image, elements, k, ELEMENT_KIND), index)
+    let index = ground::number(field_inside(image, elements, k, ELEMENT_INDEX));
+    slot_of(field_inside(image, elements, k, ELEMENT_KIND), index)
 }
 
 // The word at a slot, 0 past the end.
@@ -55,7 +57,7 @@ fn set_slot(slots: &mut [u32], slot: usize, value: u32)
 
 // Code 7, and each thing's listing: one walk over the elements, with slots that are all 0.
 pub fn list_elements(image: &[u32], ts: Tables, slots: &mut [u32]) -> Found
-    requires { ⌜ AllSmall ts × (ts .elements .count ≤ maxElements) × ElementsGood (now image) ts ⌝ }
+    requires { ⌜ Inside (now image) elementSize (ts .elements) × (ts .elements .count ≤ maxElements) × ElementsGood (now image) ts ⌝ }
     requires { ⌜ now slots ≡ replicate slotCount 0 ⌝ }
     ensures { λ r. ⌜ Listed (now (image .entry)) ts (now (slots .exit)) r ⌝ }
 {
@@ -91,22 +93,23 @@ pub fn last_row(image: &[u32], ts: Tables, k: usize) -> u32
 
 // "first row > last row, or first row below the previous element's"
 fn rows_broken(image: &[u32], ts: Tables, k: usize) -> bool
-    requires { ⌜ AllSmall ts × (k < 4294967296) ⌝ }
+    requires { ⌜ Inside (now image) elementSize (ts .elements) × (k < ts .elements .count) ⌝ }
     ensures { λ r. ⌜ r ≡ rowsBroken (now (image .entry)) ts k ⌝ }
 {
-    let first = first_row(image, ts, k);
-    if last_row(image, ts, k) < first {
+    let elements = ts.elements;
+    let first = field_inside(image, elements, k, ELEMENT_FIRST_ROW);
+    if field_inside(image, elements, k, ELEMENT_LAST_ROW) < first {
         return true;
     }
     if k == 0 {
         return false;
     }
-    first < first_row(image, ts, k - 1)
+    first < field_inside(image, elements, k - 1, ELEMENT_FIRST_ROW)
 }
 
 // Code 8.
 pub fn bad_order(image: &[u32], ts: Tables) -> Found
-    requires { ⌜ AllSmall ts ⌝ }
+    requires { ⌜ Inside (now image) elementSize (ts .elements) ⌝ }
     ensures { λ r. ⌜ r ≡ firstBad (orderJudged (now (image .entry)) ts) ⌝ }
 {
     let elements = ts.elements;

@@ -8,12 +8,14 @@ use mathlib.Core.Path.{_≡_, refl, sym, _∙_}
 use lib.Dec.{eqb, leb}
 use lib.ListN.{length}
 use borrow.Author.Tests.{le-leb, leb-true, eq-eqb, eqb-true}
+use Rattle.ground.specs.declared.Found.{Found}
 use Rattle.ground.specs.declared.Found.the-variants as found
 use Rattle.ground.specs.Judged.{judged, firstBad}
 use Rattle.ground.proofs.First.{found-none}
 use Rattle.ground.proofs.Judged.{one-judged}
 use Rattle.glyph.specs.Width.{rangeCount}
 use Rattle.glyph.specs.Ranges.{RangeGood}
+use Rattle.glyph.specs.Ranges as glyph
 use Rattle.glyph.proofs.Theorems.{broken-placed, ranges-good-iff}
 use Rattle.layout.specs.declared.Tables.{Tables}
 use Rattle.layout.specs.Layout.{headerSize, headerRuns, rangeSize}
@@ -22,7 +24,6 @@ use Rattle.image.proofs.Theorems.{span-whole}
 use Rattle.rows.proofs.Windows.{clash}
 use Rattle.things.specs.Things.{rangesOf, runCount}
 use Rattle.refusals.specs.Rules.{shortJudged, lengthJudged, rangesJudged, runsJudged}
-use Rattle.refusals.proofs.Kept.{ranges-kept}
 
 -- A test by itself.
 one-iff : (place : ℕ) (good : Bool) → (firstBad (judged place good ∷ []) ≡ found.None) ↔ (good ≡ true)
@@ -46,6 +47,15 @@ unfolding runsJudged
 runs-iff image ts =
     let one = one-iff headerRuns (leb (runCount image ts) (word image headerRuns)) in
     (λ h. leb-true _ _ (one .0 h), λ h. one .1 (le-leb _ _ h))
+
+-- Ranges of which none is found to be broken.
+pub ranges-kept : (image : List ℕ) (ts : Tables) → firstBad (rangesJudged image ts) ≡ found.None → glyph.firstBroken (rangesOf image ts) ≡ found.None
+unfolding rangesJudged
+ranges-kept image ts e = by (glyph.firstBroken (rangesOf image ts)) (sym (broken-placed (recordAt (ts .ranges)) (rangesOf image ts)) ∙ e)
+  where
+    by : (f : Found) → glyph.placed (recordAt (ts .ranges)) f ≡ found.None → f ≡ found.None
+    by found.None h = refl
+    by (found.At k) h = let z : _≡_ {A = ℕ} 0 1 = cc in absurd (omega arith)
 
 -- The range rule: there are as many ranges as the header says where the length is right.
 

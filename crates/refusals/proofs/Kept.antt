@@ -2,18 +2,19 @@
 use native.Mathlib.Omega.{arith}
 use Prim.Native.Nat.{ℕ, _≤_}
 use mathlib.Core.List.{List}
-use mathlib.Core.Path.{_≡_, refl, sym, _∙_}
+use mathlib.Core.Path.{_≡_, sym}
 use Rattle.ground.specs.declared.Found.{Found}
 use Rattle.ground.specs.declared.Found.the-variants as found
 use Rattle.ground.specs.Judged.{firstBad}
 use Rattle.glyph.specs.Width.{widthOf}
 use Rattle.glyph.specs.Ranges.{opening}
-use Rattle.glyph.specs.Ranges as glyph
-use Rattle.glyph.proofs.Theorems.{broken-placed, right-widths}
+use Rattle.glyph.proofs.Theorems.{right-widths}
 use Rattle.layout.specs.declared.Tables.{Tables}
-use Rattle.layout.specs.Layout.{maxThings, maxElements, elementKind}
+use Rattle.layout.specs.Layout.{maxThings, maxElements, elementKind, elementSize}
+use Rattle.layout.specs.Inside.{Inside}
 use Rattle.layout.specs.Small.{AllSmall}
-use Rattle.layout.specs.Tables.{field, recordAt, tablesOf}
+use Rattle.layout.specs.Tables.{field, tablesOf, wantedLength}
+use Rattle.layout.proofs.Inside.{all-inside}
 use Rattle.image.specs.declared.ElementKind.{ElementKind}
 use Rattle.image.specs.declared.ElementKind.the-variants as kind
 use Rattle.image.specs.Records.{elementKindOf, thingTable}
@@ -34,6 +35,7 @@ use Rattle.refusals.specs.FirstBroken.{firstBroken}
 use Rattle.refusals.specs.Rules.{tooShort, overLimit, wrongLength, badField, badRange, cornerBelowZero, listedTwice, outOfOrder, notListed, tooManyRuns}
 use Rattle.refusals.specs.Rules.{shortJudged, lengthJudged, rangesJudged, runsJudged, contentRules, formRules, touchRules, listingRules}
 use Rattle.refusals.proofs.FirstBroken.{none-left, kept-first, first-kept}
+use Rattle.refusals.proofs.Accepted.{length-iff, ranges-kept}
 
 -- codes 1 to 6 find nothing
 pub record FormKept (image : List ℕ) : Type 0 where
@@ -90,15 +92,6 @@ module _ (image : List ℕ) (ts : Tables) where
       (first-kept outOfOrder _ _ (k .order)
       (first-kept notListed _ _ (k .listed) (first-kept tooManyRuns _ _ (k .runs) (sym none-left))))
 
--- Ranges of which none is found to be broken.
-pub ranges-kept : (image : List ℕ) (ts : Tables) → firstBad (rangesJudged image ts) ≡ found.None → glyph.firstBroken (rangesOf image ts) ≡ found.None
-unfolding rangesJudged
-ranges-kept image ts e = by (glyph.firstBroken (rangesOf image ts)) (sym (broken-placed (recordAt (ts .ranges)) (rangesOf image ts)) ∙ e)
-  where
-    by : (f : Found) → glyph.placed (recordAt (ts .ranges)) f ≡ found.None → f ≡ found.None
-    by found.None h = refl
-    by (found.At k) h = let z : _≡_ {A = ℕ} 0 1 = cc in absurd (omega arith)
-
 -- The counts of an image whose header is good.
 module _ (image : List ℕ) (good : HeaderGood image) where
   pub things-few : (kind : ElementKind) → thingTable kind (tablesOf image) .count ≤ maxThings
@@ -132,6 +125,11 @@ module _ (image : List ℕ) (ts : Tables) (t : ts ≡ tablesOf image) (passed : 
 
   pub good-elements : ElementsGood image ts
   good-elements = rw t (elements-good image good-header (records-iff image (tablesOf image) .0 (form-kept image passed .fields)))
+
+  pub elements-inside : AllSmall ts → Inside image elementSize (ts .elements)
+  unfolding tablesOf wantedLength
+  elements-inside small =
+      all-inside image ts (wantedLength image) t small (rw t) (length-iff image .0 (form-kept image passed .wholes)) .elements
 
   pub ready : (slots : List ℕ) (twice : Found) → AllSmall ts → Listed image ts slots twice → twice ≡ found.None → Ready image ts slots
   ready slots twice small listed none = record {

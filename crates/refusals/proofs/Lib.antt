@@ -1,6 +1,6 @@
 -- What the proofs of the check share, and what they show.
 pub mod FirstBroken
 pub mod Laws
-pub mod Kept
 pub mod Accepted
+pub mod Kept
 pub mod Theorems

@@ -25,8 +25,8 @@ use Rattle.refusals.specs.FirstBroken.{rule, firstBroken, BrokenFirst, r
 use Rattle.refusals.specs.Rules.{contentRules, formRules, touchRules, listingRules, rules, checked}
 use Rattle.refusals.specs.Accepted.{Keeps}
 use Rattle.refusals.proofs.FirstBroken.{andThen, broken-append, broken-first, first-broken}
-use Rattle.refusals.proofs.Kept.{FormKept, ListingKept, form-kept, kept-form, listing-kept, kept-listing, ranges-kept}
-use Rattle.refusals.proofs.Accepted.{short-iff, length-iff, runs-iff, ranges-iff}
+use Rattle.refusals.proofs.Kept.{FormKept, ListingKept, form-kept, kept-form, listing-kept, kept-listing}
+use Rattle.refusals.proofs.Accepted.{short-iff, length-iff, runs-iff, ranges-kept, ranges-iff}
 
 -- Every code is from 1 to 10.
 

@@ -1,12 +1,12 @@
 -- `check_listing` refuses with code 7, then 8, then goes on with the listings in their slots.
 use borrow.Author.Needs.{needs}
 use Rattle.refusals.proofs.Laws.{listing-twice, listing-order, listing-touched}
-use Rattle.refusals.proofs.Kept.{few-elements, good-elements, ready}
+use Rattle.refusals.proofs.Kept.{few-elements, good-elements, elements-inside, ready}
 use Rattle.refusals.proofs.check_listing.Statement.{statement}
 use Rattle.refusals.proofs.check_listing.Tie as tie
 
 list-elements-requires : tie.Need-list-elements-requires
-list-elements-requires c κs = search (few-elements, good-elements, needs)
+list-elements-requires c κs = search (few-elements, good-elements, elements-inside, needs)
 
 returns : tie.Need-returns
 returns c = search (listing-twice, needs)
@@ -30,7 +30,7 @@ check-listing-spec =
     (λ c κs. search needs)
     returns
     (λ c. search needs)
-    (λ c κs. search needs)
+    (λ c κs. search (elements-inside, needs))
     (λ c. search needs)
     (λ c κs. search needs)
     returns-2
