@@ -10,8 +10,11 @@ use refusals::Answer;
 
 // What stands next on the stream.
 enum Next {
+    // an image of so many words
     Image(usize),
+    // the stream ends
     End,
+    // it breaks off, or the image is too long for this program
     Unread,
 }
 

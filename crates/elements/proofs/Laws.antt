@@ -20,8 +20,8 @@ use Rattle.ground.proofs.Order.{by-three}
 use Rattle.layout.specs.declared.Tables.{Tables}
 use Rattle.layout.specs.Layout.{elementKinds, maxThings}
 use Rattle.layout.specs.Tables.{recordAt}
-use Rattle.elements.specs.Elements.{kindOf, indexOf, firstRow, lastRow, names, lister, listedBefore, twiceJudged, rowsBroken, ElementsGood}
-use Rattle.elements.specs.Slots.{slotCount, slotOf, elementSlot, slotListing, Held, Listed}
+use Rattle.elements.specs.Elements.{kindOf, indexOf, firstRow, lastRow, names, lister, listedBefore, twiceJudged, rowsBroken}
+use Rattle.elements.specs.Slots.{slotCount, slotOf, elementSlot, slotListing, ElementsGood, Held, Listed}
 use Rattle.elements.proofs.Records.{foundFrom, records-whole, records-again, records-hit, records-done}
 
 -- Which elements name a thing.

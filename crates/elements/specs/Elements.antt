@@ -9,7 +9,7 @@ use Rattle.ground.specs.First.{foundIf, firstFrom}
 use Rattle.ground.specs.Judged.{Judged}
 use Rattle.ground.specs.declared.Found.{Found}
 use Rattle.layout.specs.declared.Tables.{Tables}
-use Rattle.layout.specs.Layout.{elementKind, elementIndex, elementFirstRow, elementLastRow, elementKinds, maxThings}
+use Rattle.layout.specs.Layout.{elementKind, elementIndex, elementFirstRow, elementLastRow}
 use Rattle.layout.specs.Tables.{field}
 use Rattle.elements.specs.Records.{judgedRecords}
 
@@ -68,8 +68,3 @@ abbrev pub Ordered : List ℕ → Tables → Type 0
 Ordered image ts =
     ((k : ℕ) → k < ts .elements .count → firstRow image ts k ≤ lastRow image ts k)
     × ((k : ℕ) → suc k < ts .elements .count → firstRow image ts k ≤ firstRow image ts (suc k))
-
--- What codes 2 and 4 say of the elements: each names a thing of one of three kinds, each of which has only so many.
-pub record ElementsGood (image : List ℕ) (ts : Tables) : Type 0 where
-  pub kind : (k : ℕ) → k < ts .elements .count → kindOf image ts k < elementKinds
-  pub index : (k : ℕ) → k < ts .elements .count → indexOf image ts k < maxThings

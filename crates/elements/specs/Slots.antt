@@ -25,6 +25,11 @@ abbrev pub slotListing : ℕ → Found
 slotListing zero = found.None
 slotListing (suc k) = found.At k
 
+-- What codes 2 and 4 say of the elements: each names a thing of one of three kinds, each of which has only so many.
+pub record ElementsGood (image : List ℕ) (ts : Tables) : Type 0 where
+  pub kind : (k : ℕ) → k < ts .elements .count → kindOf image ts k < elementKinds
+  pub index : (k : ℕ) → k < ts .elements .count → indexOf image ts k < maxThings
+
 -- each slot says which of the first so many elements lists its thing
 abbrev pub Held : List ℕ → Tables → List ℕ → ℕ → Type 0
 Held image ts slots count =

@@ -52,20 +52,29 @@ pub enum Piece {
     Horizontal(Line),
     // cells from first to last on a row that wait: "Runs wait"
     Run {
+        // its row
         row: usize,
+        // its first column
         first: usize,
+        // its last column
         last: usize,
     },
     // one stroke
     Stroke {
+        // its column
         x: usize,
+        // its row
         y: usize,
+        // what it strokes
         arms: Arms,
     },
     // one arrow
     Mark {
+        // its column
         x: usize,
+        // its row
         y: usize,
+        // which way it points
         dir: Dir,
     },
 }

@@ -9,8 +9,11 @@ use ground::Found;
 
 // One width range: the values from first to last have this width.
 pub struct Range {
+    // the least value that it holds
     pub first: u32,
+    // the greatest value that it holds
     pub last: u32,
+    // how many columns each of them takes
     pub width: u32,
 }
 

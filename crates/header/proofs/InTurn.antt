@@ -20,6 +20,11 @@ kept p at i [] = refl
 kept p at i (true ∷ rest) = kept p at (suc i) rest
 kept p at i (false ∷ rest) = kept p at (suc i) rest
 
+-- and so does what was found before a word, or else the word
+stays : (before : Found) (p at i : ℕ) (rules : List Bool) → orWords (orElse before (found.At p)) at i rules ≡ orElse before (found.At p)
+stays found.None p at i rules = kept p at i rules
+stays (found.At q) p at i rules = kept q at i rules
+
 all-words : (at i : ℕ) (rules : List Bool) → orWords found.None at i rules ≡ firstBad (judgedWords at i rules)
 unfolding orWords judgedWords firstBad
 all-words at i [] = refl
@@ -28,11 +33,6 @@ all-words at i (false ∷ rest) = kept (at + i) at (suc i) rest
 
 pub in-turn : (r : Found) (at i : ℕ) (rules : List Bool) → r ≡ orWords found.None at i rules → r ≡ firstBad (judgedWords at i rules)
 in-turn r at i rules e = e ∙ all-words at i rules
-
--- and so does what was found before a word, or else the word
-stays : (before : Found) (p at i : ℕ) (rules : List Bool) → orWords (orElse before (found.At p)) at i rules ≡ orElse before (found.At p)
-stays found.None p at i rules = kept p at i rules
-stays (found.At q) p at i rules = kept q at i rules
 
 -- Of four the first, the second, the third or the last is over the limit, or none is.
 

@@ -25,6 +25,7 @@ pub enum LabelPolicy {
     AvoidNodeRows,
 }
 
+// What the header says of the sheet.
 pub struct Header {
     // columns of the sheet
     pub width: u32,
@@ -40,9 +41,13 @@ pub struct Header {
 
 // Four words of a record that follow one another.
 struct Four {
+    // the word at the offset
     first: u32,
+    // the next
     second: u32,
+    // the one after that
     third: u32,
+    // the last of the four
     fourth: u32,
 }
 
@@ -108,7 +113,9 @@ pub struct Span {
 
 // Where a part of the image begins and ends.
 struct Bounds {
+    // its first word
     first: usize,
+    // the place past its last word
     end: usize,
 }
 
@@ -156,11 +163,13 @@ pub enum NodeKind {
 
 // Whether a node has an edge to itself.
 pub enum SelfLoop {
+    // it has none
     None,
     // the cell of its marker
     At { x: u32, y: u32 },
 }
 
+// A node of the diagram: a gear stage.
 pub struct Node {
     // left column
     pub x: u32,
@@ -172,7 +181,9 @@ pub struct Node {
     pub height: u32,
     // the glyphs of its label
     pub label: Span,
+    // how it looks
     pub kind: NodeKind,
+    // its edge to itself
     pub self_loop: SelfLoop,
 }
 
@@ -237,6 +248,7 @@ pub enum Path {
     },
     // by crossings from point to point
     MultiSegment {
+        // the points between source and target
         points: Span,
         // how much later than one cell past its start the first leg crosses
         start_offset: u32,
@@ -257,11 +269,13 @@ pub enum FlowAxis {
 
 // An edge's label, which a placed label shows.
 pub enum EdgeLabel {
+    // it has none
     None,
     // its glyphs
     Present(Span),
 }
 
+// An edge of the diagram.
 pub struct Edge {
     // the column of its source
     pub from_x: u32,
@@ -271,7 +285,9 @@ pub struct Edge {
     pub to_x: u32,
     // the row of its target
     pub to_y: u32,
+    // how it gets to its target
     pub path: Path,
+    // along which axis it flows
     pub flow_axis: FlowAxis,
     // whether it is drawn against its direction
     pub reversed: bool,
@@ -281,6 +297,7 @@ pub struct Edge {
     pub end_marker: bool,
     // the weight of its strokes
     pub weight: Weight,
+    // what its placed labels show
     pub label: EdgeLabel,
     // of its strokes and markers
     pub colour: u32,
@@ -290,10 +307,15 @@ pub struct Edge {
 
 // What an edge's flags say beside its path and its label.
 struct Style {
+    // along which axis it flows
     flow_axis: FlowAxis,
+    // whether it is drawn against its direction
     reversed: bool,
+    // whether it has an arrow at its start
     start_marker: bool,
+    // whether it has an arrow at its end
     end_marker: bool,
+    // the weight of its strokes
     weight: Weight,
 }
 
@@ -391,6 +413,7 @@ pub enum LabelPosition {
     InsideBottom,
 }
 
+// A border round part of the diagram, with a label.
 pub struct Subgraph {
     // left column
     pub x: u32,
@@ -404,6 +427,7 @@ pub struct Subgraph {
     pub label: Span,
     // the weight of its border, None without one
     pub border: Weight,
+    // where its label stands
     pub position: LabelPosition,
     // of its border; 0 keeps what is there
     pub colour: u32,
@@ -473,13 +497,17 @@ pub fn placed_label_at(image: &[u32], labels: Table, k: usize) -> PlacedLabel
 
 // What an element lists.
 pub enum ElementKind {
+    // a node
     Node,
+    // an edge
     Edge,
+    // a subgraph
     Subgraph,
 }
 
 // The planner's listing of one thing: the rows that it may touch.
 pub struct Element {
+    // what kind of thing it lists
     pub kind: ElementKind,
     // which thing of the kind
     pub index: u32,
@@ -562,8 +590,11 @@ pub fn table_words(image: &[u32], table: Table) -> &[u32]
     )
 }
 
+// A point of a path.
 pub struct Point {
+    // its column
     pub x: u32,
+    // its row
     pub y: u32,
 }
 

@@ -278,6 +278,7 @@ pub fn flag(flags: u32, bit: u32) -> bool
     flags / bit % 2 == 1
 }
 
+// A table: records of one size, side by side.
 pub struct Table {
     // the place of its first word
     pub start: usize,
@@ -289,9 +290,11 @@ pub struct Table {
 
 // The eight tables, in the order in which they stand.
 pub struct Tables {
-    // what the sheet shows
+    // what edges join
     pub nodes: Table,
+    // what is drawn between nodes
     pub edges: Table,
+    // the borders round groups of nodes
     pub subgraphs: Table,
     // where edges' labels are placed
     pub labels: Table,
@@ -391,12 +394,19 @@ pub fn field_inside(image: &[u32], table: Table, k: usize, offset: usize) -> u32
 
 // What a table holds.
 pub enum RecordKind {
+    // a node
     Node,
+    // an edge
     Edge,
+    // a subgraph
     Subgraph,
+    // where an edge's label is placed
     PlacedLabel,
+    // the listing of one thing
     Element,
+    // a point of a path
     Point,
+    // a glyph of a label
     Glyph,
     // a width range
     Range,
@@ -424,8 +434,11 @@ pub enum FieldName {
     Header(usize),
     // a field of a record, both counted from 0
     Record {
+        // what kind of record
         kind: RecordKind,
+        // which record of its table
         index: usize,
+        // which field of the record
         field: usize,
     },
     // past the last table

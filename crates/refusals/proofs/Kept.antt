@@ -24,8 +24,8 @@ use Rattle.records.proofs.Theorems.{thing-count}
 use Rattle.fields.specs.Tables.{recordsJudged}
 use Rattle.fields.specs.Good.{RecordsGood}
 use Rattle.fields.proofs.Theorems.{records-iff}
-use Rattle.elements.specs.Elements.{twiceJudged, orderJudged, ElementsGood}
-use Rattle.elements.specs.Slots.{Listed}
+use Rattle.elements.specs.Elements.{twiceJudged, orderJudged}
+use Rattle.elements.specs.Slots.{ElementsGood, Listed}
 use Rattle.things.specs.Things.{rangesOf}
 use Rattle.corners.specs.Corners.{cornersJudged}
 use Rattle.listing.specs.Listing.{listedJudged}
