@@ -1,12 +1,12 @@
 -- Code 6 finds nothing exactly where no corner of a MultiSegment lies below 0.
 use native.Mathlib.Omega.{arith}
 use Prim.Native.Nat.{ℕ, _+_, _≤_, _<_}
-use mathlib.Core.Bool.{Bool, true, false, not, _&&_, and-false}
+use mathlib.Core.Bool.{Bool, false, not, _&&_, and-false}
 use mathlib.Core.List.{List}
 use mathlib.Core.Logic.{_↔_}
-use mathlib.Core.Path.{_≡_, refl, sym}
+use mathlib.Core.Path.{_≡_, refl}
 use lib.Dec.{eqb}
-use borrow.Author.Tests.{eq-eqb, ne-eqb}
+use borrow.Author.Tests.{eq-eqb, ne-eqb, not-true}
 use Rattle.ground.specs.declared.Found.the-variants as found
 use Rattle.ground.specs.Judged.{firstBad}
 use Rattle.ground.proofs.Each.{by-bool, number-some, none-number}
@@ -91,10 +91,6 @@ pub corners-iff :
 unfolding cornersJudged
 corners-iff image ts =
     let each = records-good-iff (ts .edges) (λ k. not (edgeBelow image ts k)) in (
-      (λ h k p. path-above _ (edgeAt image (ts .edges) k) (edgePoints image ts k) refl (is-false (edgeBelow image ts k) (each .0 h k p))),
+      (λ h k p. path-above _ (edgeAt image (ts .edges) k) (edgePoints image ts k) refl (not-true (edgeBelow image ts k) (each .0 h k p))),
       (λ g. each .1 (λ k p. rw (above-path _ (edgeAt image (ts .edges) k) (edgePoints image ts k) refl (g k p)))),
     )
-  where
-    is-false : (b : Bool) → not b ≡ true → b ≡ false
-    is-false true h = sym h
-    is-false false h = refl

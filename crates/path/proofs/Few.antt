@@ -1,14 +1,13 @@
 -- How many runs an edge has at most, so that no sum of runs wraps: a piece is at most one run, and the pieces are few for each point of the path.
 use native.Mathlib.Omega.{arith}
 use Prim.Native.Nat.{ℕ, zero, suc, _+_, _-_, _*_, _≤_, _<_}
-use mathlib.Core.Bool.{Bool, true, false, cond}
-use mathlib.Core.List.{List, [], _∷_, _++_, map}
+use mathlib.Core.List.{List, [], _∷_, map}
 use mathlib.Core.Path.{_≡_, refl}
 use lib.Dec.{eqb, leb}
 use lib.ListN.{length, length-append}
 use borrow.Author.Tests.{leb-true}
 use Rattle.ground.specs.Each.{numbers, each}
-use Rattle.ground.proofs.Each.{by-bool}
+use Rattle.ground.proofs.Each.{by-bool, cond-holds}
 use Rattle.ground.proofs.Order.{cond-bound}
 use Rattle.layout.specs.declared.Table.{Table}
 use Rattle.layout.specs.Small.{Small}
@@ -59,9 +58,8 @@ unfolding each numbers
 each-few f few k zero = omega arith
 each-few f few k (suc n) = omega (arith, few k, each-few f few (suc k) n, length-append (f k) (each (numbers (suc k) n) f))
 
-chosen : (test : Bool) (k l : List Piece) → length k ≤ 9 → length l ≤ 9 → length (cond test k l) ≤ 9
-chosen true k l p q = p
-chosen false k l p q = q
+abbrev Few : List Piece → Type 0
+Few pieces = length pieces ≤ 9
 
 -- a leg on each axis
 
@@ -85,8 +83,8 @@ straight-x e leg = omega arith
 
 leg-few : (axis : FlowAxis) (e : Edge) (offset : ℕ) (leg : Leg) → length (legOn axis e offset leg) ≤ 9
 unfolding legOn legY legX
-leg-few Y e offset leg = chosen (eqb (leg .x1) (leg .x2)) _ _ (straight-y e leg) (crossed-y e offset leg (cornerRow e offset leg))
-leg-few X e offset leg = chosen (eqb (leg .y1) (leg .y2)) _ _ (straight-x e leg) (crossed-x e offset leg (cornerColumn e offset leg))
+leg-few Y e offset leg = cond-holds Few (eqb (leg .x1) (leg .x2)) (straight-y e leg) (crossed-y e offset leg (cornerRow e offset leg))
+leg-few X e offset leg = cond-holds Few (eqb (leg .y1) (leg .y2)) (straight-x e leg) (crossed-x e offset leg (cornerColumn e offset leg))
 
 -- a Direct, a Corner and a SideChannel
 

@@ -14,7 +14,7 @@ use Rattle.rows.specs.declared.Rows.{Rows}
 use Rattle.rows.specs.declared.Window.{Window}
 use Rattle.rows.specs.Window.{joinRows}
 use Rattle.rows.specs.Computed.{windowRows}
-use Rattle.rows.proofs.Theorems.{join-assoc, join-none}
+use Rattle.rows.proofs.Theorems.{join-assoc}
 use Rattle.flow.specs.declared.Bend.{Bend}
 use Rattle.flow.specs.declared.Leg.{Leg}
 use Rattle.flow.specs.declared.Piece.{Piece}
@@ -25,7 +25,7 @@ use Rattle.flow.specs.Flow.{lineOf, cornerBend, legBend, targetMarker}
 use Rattle.flow.specs.Pieces.{pieceRunsIn}
 use Rattle.flow.specs.Reach.{rowIf, hasInside, verticalRows, pieceRows, pieceReach, joinReach, withRows, reachOf}
 use Rattle.flow.proofs.Reached.{join-same, join-no-reach, reachOnto, reach-onto, with-vertical, with-piece-if, with-first-corner, with-last-corner}
-use Rattle.flow.proofs.Reached.{leg-straight, leg-bent}
+use Rattle.flow.proofs.Reached.{with-rows-unless, leg-straight, leg-bent}
 use Rattle.y_flow.specs.YFlow.{signY, directY, crossRunY, crossFirstY, crossLastY, cornerArrowY, trunkY, ownStartY, tailY}
 use Rattle.y_flow.specs.YFlow.{bentY, cornerY, channelLineY, sideY, straightLineY, straightY, cornerRow, crossingY, legY}
 use Rattle.y_reach.specs.Reach.{trunkRows, crossingReach, bentReach, channelReach}
@@ -178,10 +178,6 @@ module _ (window : Window) where
     unfolding directY lineOf
     direct-reached from to p f t = p ∙ rw (f, t) (sym (with-vertical window reach _))
 
-    no-start : (trunk : Reach) (y : ℕ) → trunk ≡ withRows trunk (rowIf window false y)
-    unfolding withRows
-    no-start trunk y = rw (join-none (trunk .rows))
-
     pub corner-reached :
         (place bend x1 y1 x2 y2 : ℕ) (trunk crossed : Reach) →
         r ≡ withRows crossed (verticalRows window bend y2) →
@@ -195,7 +191,7 @@ module _ (window : Window) where
         r ≡ joinReach reach (reachOf window (cornerY e place))
     unfolding cornerY cornerBend
     corner-reached place bend x1 y1 x2 y2 trunk crossed p q t n a b c d =
-        bent-joined reach true false bend x1 y1 x2 y2 trunk trunk crossed r p q (no-start trunk y1) t
+        bent-joined reach true false bend x1 y1 x2 y2 trunk trunk crossed r p q (with-rows-unless trunk false (windowRows window y1 y1) refl) t
         ∙ rw (n, a, b, c, d) (sym (bent-reached (e .weight) (signY e) (cornerBend e place) reach))
 
     side-pieces :
