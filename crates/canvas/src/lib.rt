@@ -1,2 +1,3 @@
 // Ink on lent cells.
+pub mod packed;
 pub mod row;

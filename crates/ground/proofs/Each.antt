@@ -1,7 +1,9 @@
 -- Going over a list or over numbers: two lists one after the other, a turn of a loop, and what a test over all of them says of each.
 use native.Mathlib.Omega.{arith}
 use native.Mathlib.Numerals.{add-one}
-use Prim.Native.Nat.{ℕ, zero, suc, _+_, _-_, _≤_, _<_}
+use native.Mathlib.Nat.{suc-add, add-zero, zero-add, mul-suc, mul-zero}
+use Prim.Native.Nat.{ℕ, zero, suc, _+_, _-_, _*_, _≤_, _<_}
+use lib.ListN.{length, length-append}
 use mathlib.Core.Bool.{Bool, true, false, cond, _&&_, _||_, and-assoc, or-assoc, or-true}
 use mathlib.Core.List.{List, [], _∷_, _++_, append-assoc, append-nil}
 use mathlib.Core.Path.{_≡_, refl, sym, _∙_, ap}
@@ -146,3 +148,29 @@ module _ (test : ℕ → Bool) where
   none-number k zero h = refl
   none-number k (suc n) h =
       or-neither (h k (omega arith) (omega arith)) (none-number (suc k) n (λ j p q. h j (omega arith) (omega arith)))
+
+-- Going over numbers in two parts.
+pub each-numbers :
+    {B : Type 0} (f : ℕ → List B) (first n m : ℕ) →
+    each (numbers first (n + m)) f ≡ each (numbers first n) f ++ each (numbers (first + n) m) f
+unfolding numbers each
+each-numbers f first zero m = rw (zero-add, add-zero)
+each-numbers f first (suc n) m =
+    let e : first + suc n ≡ suc first + n = omega arith in
+    rw (suc-add, e, each-numbers f (suc first) n m, append-assoc)
+
+-- The length, where each number makes so many.
+pub each-length :
+    {B : Type 0} (f : ℕ → List B) (w first n : ℕ) →
+    ((y : ℕ) → length (f y) ≡ w) →
+    length (each (numbers first n) f) ≡ w * n
+unfolding numbers each
+each-length f w first zero h = rw mul-zero
+each-length f w first (suc n) h = rw (length-append, h, each-length f w (suc first) n h, mul-suc) (omega arith)
+
+-- Things that make the same, one by one.
+module _ {A B : Type 0} (f g : A → List B) (same : (a : A) → f a ≡ g a) where
+  pub each-same : (l : List A) → each l f ≡ each l g
+  unfolding each
+  each-same [] = refl
+  each-same (a ∷ l) = rw (same a, each-same l)

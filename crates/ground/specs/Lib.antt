@@ -1,4 +1,5 @@
--- What every layer shares: going over a list, and the first that breaks a rule.
+-- What every layer shares: going over a list and over numbers, and the first that breaks a rule.
 pub mod Each
+pub mod Turns
 pub mod First
 pub mod Judged

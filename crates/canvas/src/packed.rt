@@ -1,0 +1,48 @@
+// A stroke in a row, on packed words where the cell is empty or a stroke: most cells of a line are. It comes to the same as `row::stroke`.
+ghost use mathlib.Core.Path.{_≡_};
+ghost use Prim.Native.Nat.{_≤_, max};
+ghost use Rattle.cell.specs.OneCell.{pack};
+ghost use Rattle.cell.specs.declared.Parts.the-variants as parts;
+ghost use Rattle.canvas.specs.Row.{strokeRow};
+ghost use Rattle.canvas.specs.Packed.{armNumber, mergedWord, FourArms};
+use crate::row;
+use cell::Arms;
+
+// "the greater weight per arm", of two fields. A field that no weight has is no arm.
+fn arm(old: u32, new: u32) -> u32
+    requires { ⌜ new ≤ 3 ⌝ }
+    ensures { λ r. ⌜ (r ≡ max (armNumber old) new) × (r ≤ 3) ⌝ }
+{
+    if old <= new {
+        return new;
+    }
+    if old <= 3 { old } else { new }
+}
+
+fn merged(old: u32, word: u32) -> u32
+    requires { ⌜ FourArms word ⌝ }
+    ensures { λ r. ⌜ r ≡ mergedWord old word ⌝ }
+{
+    let up = arm(old % 8, word % 8);
+    let down = arm(old / 8 % 8, word / 8 % 8);
+    let left = arm(old / 64 % 8, word / 64 % 8);
+    let right = arm(old / 512 % 8, word / 512 % 8);
+    0x8000_0000 + (up + 8 * down + 64 * left + 512 * right)
+}
+
+// The word is the stroke, packed: whoever paints a line packs it once.
+pub fn stroke(row: &mut [u32], ranges: &[u32], x: usize, arms: Arms, word: u32)
+    requires { ⌜ word ≡ pack (parts.Stroke arms) ⌝ }
+    ensures { λ _. ⌜ now (row .exit) ≡ strokeRow (now (row .entry)) (now (ranges .entry)) x arms ⌝ }
+{
+    if x < row.len() {
+        let old = row[x];
+        if old == 0 {
+            row[x] = word;
+        } else if old / 0x4000_0000 == 2 {
+            row[x] = merged(old, word);
+        } else {
+            row::stroke(row, ranges, x, arms);
+        }
+    }
+}
