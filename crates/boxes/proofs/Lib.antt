@@ -1,0 +1,2 @@
+-- Laws of boxes.
+pub mod Laws

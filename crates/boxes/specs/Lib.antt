@@ -1,0 +1,2 @@
+-- How the code makes a box.
+pub mod Computed

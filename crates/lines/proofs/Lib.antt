@@ -1,0 +1,3 @@
+-- Laws of lines.
+pub mod Laws
+pub mod Inked

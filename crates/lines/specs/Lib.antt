@@ -1,0 +1,3 @@
+-- Lines with arrows, as ink at places of the sheet.
+pub mod Lines
+pub mod Computed

@@ -1,0 +1,2 @@
+-- Laws of glyphs side by side.
+pub mod Laws

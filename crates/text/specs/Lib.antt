@@ -1,0 +1,2 @@
+-- Glyphs side by side in a window.
+pub mod Text

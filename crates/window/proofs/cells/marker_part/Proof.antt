@@ -1,0 +1,23 @@
+-- `marker_part` writes into its part of the cells.
+use borrow.Author.Needs.{needs}
+use Rattle.window.specs.Writes.{inkOn}
+use Rattle.window.proofs.Laws.{put-back}
+use Rattle.window.proofs.cells.marker_part.Statement.{statement}
+use Rattle.window.proofs.cells.marker_part.Tie as tie
+
+returns : tie.Need-returns
+unfolding inkOn
+returns c = put-back _ _ _ _ _ (c .before .before .marker .ensures)
+
+pub marker-part-spec : {M : Type 1} → statement M
+marker-part-spec =
+    tie.close
+    (tie.spec
+    (λ c. search needs)
+    (λ c. search needs)
+    (λ c. search needs)
+    (λ c. search needs)
+    (λ c. search needs)
+    (λ c κs. search needs)
+    (λ c. search needs)
+    returns)
