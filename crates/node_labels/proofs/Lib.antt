@@ -1,0 +1,2 @@
+-- Laws of a node's label painted in a window.
+pub mod Laws

@@ -1,0 +1,2 @@
+-- Laws of nodes painted in a window.
+pub mod Laws
