@@ -46,7 +46,7 @@ fn side_reach(window: Window, e: Edge, channel: u32, start: u32, end: u32) -> Re
 }
 
 // What is reached with one more leg of a MultiSegment.
-fn leg_reach(reach: Reach, window: Window, e: Edge, offset: u32, leg: Leg) -> Reach
+pub fn leg_reach(reach: Reach, window: Window, e: Edge, offset: u32, leg: Leg) -> Reach
     requires { ⌜ SmallLeg leg × (reach .runs < 0x4000000000000000) ⌝ }
     ensures { λ r. ⌜ (r ≡ joinReach reach (reachOf window (legOn (e .«flow_axis») e offset leg))) × (r .runs ≤ reach .runs + 1) ⌝ }
 {

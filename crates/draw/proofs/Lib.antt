@@ -1,0 +1,3 @@
+-- Laws of drawing.
+pub mod Laws
+pub mod Legs

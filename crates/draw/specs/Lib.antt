@@ -1,0 +1,2 @@
+-- What drawing pieces of an edge leaves.
+pub mod Drawn

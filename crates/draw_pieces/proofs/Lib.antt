@@ -1,0 +1,2 @@
+-- Laws of drawing a flow.
+pub mod Laws

@@ -1,0 +1,33 @@
+-- `draw_direct` draws a line, along the axis.
+use borrow.Author.Needs.{needs}
+use Rattle.path.specs.Pieces.{directOn}
+use Rattle.path_draw.proofs.Laws.{direct-along}
+use Rattle.path_draw.proofs.draw_direct.Statement.{statement}
+use Rattle.path_draw.proofs.draw_direct.Tie as tie
+
+returns : tie.Need-returns
+unfolding directOn
+returns c = let call = c .before .before .before .before .before .before .before .before in direct-along _ _ _ _ _ _ _ (call .before .before .before .before .before .enum-told .given .1) (call .draw-direct .ensures)
+
+returns-2 : tie.Need-returns-2
+unfolding directOn
+returns-2 c = let call = c .before .before .before .before .before .before .before .before in direct-along _ _ _ _ _ _ _ (call .before .before .before .before .before .enum-told2 .given .1) (call .draw-direct2 .ensures)
+
+pub draw-direct-spec : {M : Type 1} → statement M
+draw-direct-spec =
+    tie.close
+    (tie.spec
+    (λ c. search needs)
+    (λ c κs. search needs)
+    (λ c. search needs)
+    (λ c κs. search needs)
+    (λ c. search needs)
+    (λ c. search needs)
+    (λ c. search needs)
+    (λ c. search needs)
+    returns
+    (λ c. search needs)
+    (λ c. search needs)
+    (λ c. search needs)
+    (λ c. search needs)
+    returns-2)

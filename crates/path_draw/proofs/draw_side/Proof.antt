@@ -1,0 +1,33 @@
+-- `draw_side` draws a side channel, along the axis.
+use borrow.Author.Needs.{needs}
+use Rattle.path.specs.Pieces.{sideOn}
+use Rattle.path_draw.proofs.Laws.{side-along}
+use Rattle.path_draw.proofs.draw_side.Statement.{statement}
+use Rattle.path_draw.proofs.draw_side.Tie as tie
+
+returns : tie.Need-returns
+unfolding sideOn
+returns c = let call = c .before .before .before .before .before .before .before .before in side-along _ _ _ _ _ _ _ (call .before .before .before .before .before .enum-told .given .1) _ _ _ (call .draw-side .ensures)
+
+returns-2 : tie.Need-returns-2
+unfolding sideOn
+returns-2 c = let call = c .before .before .before .before .before .before .before .before in side-along _ _ _ _ _ _ _ (call .before .before .before .before .before .enum-told2 .given .1) _ _ _ (call .draw-side2 .ensures)
+
+pub draw-side-spec : {M : Type 1} → statement M
+draw-side-spec =
+    tie.close
+    (tie.spec
+    (λ c. search needs)
+    (λ c κs. search needs)
+    (λ c. search needs)
+    (λ c κs. search needs)
+    (λ c. search needs)
+    (λ c. search needs)
+    (λ c. search needs)
+    (λ c. search needs)
+    returns
+    (λ c. search needs)
+    (λ c. search needs)
+    (λ c. search needs)
+    (λ c. search needs)
+    returns-2)

@@ -1,0 +1,2 @@
+-- Laws of drawing an X flow.
+pub mod Laws

@@ -1,0 +1,2 @@
+-- Laws of drawing a Y flow.
+pub mod Laws
