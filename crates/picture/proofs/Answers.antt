@@ -1,0 +1,109 @@
+-- What paint answers, and what it leaves of the lent buffers.
+use native.Mathlib.Omega.{arith}
+use native.Mathlib.Nat.{zero-add}
+use Prim.Native.Nat.{ℕ, _+_, _-_, _*_, _≤_, _<_}
+use mathlib.Core.Bool.{true}
+use mathlib.Core.List.{List, [], _∷_, _++_}
+use mathlib.Core.Path.{_≡_, refl, sym, ap, _∙_}
+use lib.ListN.{length, take, drop}
+use lib.Seq.{take-at, drop-at}
+use borrow.Author.Tests.{le-leb, lt-leb}
+use Rattle.ground.specs.Each.{every}
+use Rattle.ground.specs.Judged.{Judged, firstBad}
+use Rattle.ground.proofs.Judged.{all-good, bad-first}
+use Rattle.refusals.specs.declared.Verdict.{Verdict}
+use Rattle.refusals.specs.declared.Verdict.the-variants.{Passed, Refused}
+use Rattle.refusals.specs.FirstBroken.{Rule, rule, firstBroken}
+use Rattle.refusals.specs.Rules.{rules, checked}
+use Rattle.refusals.proofs.FirstBroken.{andThen, broken-append, first-broken}
+use Rattle.refusals.proofs.Theorems.{accepted-passes, first}
+use Rattle.picture.specs.Picture.{width, height, pictureCells, pictureColours}
+use Rattle.picture.specs.Painted.{room, scratchRoom, outsideSheet, tooLittleRoom, bandJudged, plainJudged, colouredJudged, bandRules, paintRules, afterwards}
+use Rattle.picture.proofs.Statements.{Holds, AsChecked}
+use Rattle.picture.proofs.Laws.{cells-length, colours-length, cells-join, colours-join}
+
+-- A lent buffer afterwards.
+module _ (v : Verdict) (needed lent : List ℕ) where
+  -- on a refusal it is as it was
+  pub kept-on-refusal : (code place : ℕ) → v ≡ Refused code place → afterwards v needed lent ≡ lent
+  unfolding afterwards
+  kept-on-refusal code place e = rw e
+
+  pub holds-needed : (n : ℕ) (words : List ℕ) → length needed ≡ n → needed ≡ words → v ≡ Passed → Holds n words lent (afterwards v needed lent)
+  unfolding afterwards
+  holds-needed n words long same e = rw e (record {
+    needed = take-at needed (drop (length needed) lent) n long ∙ same;
+    beyond = drop-at needed (drop (length needed) lent) n long ∙ ap (λ (k : ℕ). drop k lent) long;
+  })
+
+-- two buffers afterwards, whatever they were before
+pub same-needed :
+    (v w : Verdict) (needed lent other : List ℕ) (n : ℕ) → length needed ≡ n → v ≡ w → v ≡ Passed →
+    take n (afterwards v needed lent) ≡ take n (afterwards w needed other)
+same-needed v w needed lent other n long e p =
+    holds-needed v needed lent n needed long refl p .needed ∙ sym (holds-needed w needed other n needed long refl (sym e ∙ p) .needed)
+
+-- The verdict.
+module _ (image : List ℕ) (top rows : ℕ) (lent : List Judged) where
+  abbrev added : List Rule
+  added = bandRules image top rows lent
+
+  parts : firstBroken (paintRules image top rows lent) ≡ andThen (firstBroken (rules image)) (firstBroken added)
+  unfolding paintRules
+  parts = broken-append (rules image) added
+
+  -- where the check accepts, it is that of the two rules added to the check's
+  pub band-verdict : checked image .code ≡ 0 → firstBroken (paintRules image top rows lent) ≡ firstBroken (bandRules image top rows lent)
+  band-verdict z = parts ∙ rw (accepted-passes image z)
+
+  outside-verdict : height image < top + rows → firstBroken added ≡ Refused outsideSheet 0
+  unfolding firstBroken bandJudged firstBad
+  outside-verdict h = rw (lt-leb _ _ h)
+
+  room-verdict : top + rows ≤ height image → firstBroken added ≡ firstBroken (rule tooLittleRoom lent ∷ [])
+  unfolding firstBroken bandJudged firstBad
+  room-verdict h = rw (le-leb _ _ h)
+
+  pub as-checked : AsChecked image top rows lent (firstBroken (paintRules image top rows lent))
+  unfolding firstBroken
+  as-checked = record {
+    refused = λ n. parts ∙ rw (first-broken (rules image) _ _ (first image n));
+    outside = λ z h. band-verdict z ∙ outside-verdict h;
+    short = λ z h place b. band-verdict z ∙ room-verdict h ∙ rw (bad-first lent place b);
+    passed = λ z h all. band-verdict z ∙ room-verdict h ∙ rw (all-good lent all);
+  }
+
+-- Enough room is no short buffer.
+
+module _ (image : List ℕ) (rows : ℕ) (cells scratch : List ℕ) (roomy : room image rows ≤ length cells) (spare : scratchRoom image ≤ length scratch) where
+  pub plain-room : every (plainJudged image rows cells scratch) (λ j. j .good) ≡ true
+  unfolding every plainJudged
+  plain-room = rw (le-leb _ _ roomy, le-leb _ _ spare)
+
+  pub coloured-room :
+      (colours stamps : List ℕ) → room image rows ≤ length colours → room image rows ≤ length stamps →
+      every (colouredJudged image rows cells colours stamps scratch) (λ j. j .good) ≡ true
+  unfolding every colouredJudged
+  coloured-room colours stamps wide tall = rw (le-leb _ _ roomy, le-leb _ _ wide, le-leb _ _ tall, le-leb _ _ spare)
+
+-- The rows of a band are those rows of the whole picture.
+
+module _ (whole : ℕ → ℕ → List ℕ) (w : ℕ) (long : (first rows : ℕ) → length (whole first rows) ≡ w * rows)
+    (join : (first n m : ℕ) → whole first (n + m) ≡ whole first n ++ whole (first + n) m) where
+  cut : (first rows rest : ℕ) → take (w * rows) (drop (w * first) (whole 0 (first + (rows + rest)))) ≡ whole first rows
+  cut first rows rest =
+      ap (λ (l : List ℕ). take (w * rows) (drop (w * first) l)) (join 0 first (rows + rest))
+      ∙ ap (take (w * rows)) (drop-at (whole 0 first) (whole (0 + first) (rows + rest)) (w * first) (long 0 first))
+      ∙ rw (zero-add first, join first rows rest) (take-at (whole first rows) (whole (first + rows) rest) (w * rows) (long first rows))
+
+  band-cut : (first rows height : ℕ) → first + rows ≤ height → whole first rows ≡ take (w * rows) (drop (w * first) (whole 0 height))
+  band-cut first rows height h =
+      let e : height ≡ first + (rows + (height - (first + rows))) = omega arith in
+      rw e (sym (cut first rows (height - (first + rows))))
+
+module _ (image : List ℕ) (first rows : ℕ) (inside : first + rows ≤ height image) where
+  pub cells-of-whole : pictureCells image first rows ≡ take (room image rows) (drop (room image first) (pictureCells image 0 (height image)))
+  cells-of-whole = band-cut (pictureCells image) (width image) (cells-length image) (cells-join image) first rows (height image) inside
+
+  pub colours-of-whole : pictureColours image first rows ≡ take (room image rows) (drop (room image first) (pictureColours image 0 (height image)))
+  colours-of-whole = band-cut (pictureColours image) (width image) (colours-length image) (colours-join image) first rows (height image) inside

@@ -1,0 +1,10 @@
+-- Laws and theorems about the picture.
+pub mod Table
+pub mod Statements
+pub mod Rows
+pub mod Laws
+pub mod Bands
+pub mod Answers
+pub mod Cells
+pub mod ListFree
+pub mod Theorems

@@ -1,0 +1,106 @@
+-- What the theorems say, where it takes more than an equation.
+use Prim.Native.Nat.{ℕ, _+_, _*_, _≤_, _<_}
+use mathlib.Core.Bool.{true}
+use mathlib.Core.List.{List, [], _∷_, _++_}
+use mathlib.Core.Path.{_≡_}
+use lib.ListN.{take, drop, replicate}
+use Rattle.ground.specs.Each.{every}
+use Rattle.ground.specs.Judged.{Judged, FirstBad}
+use Rattle.layout.specs.Layout.{headerRuns, headerElements}
+use Rattle.layout.specs.Tables.{word, tableEnd, elementTable}
+use Rattle.rows.specs.declared.Window.{Window}
+use Rattle.window.specs.Writes.{Canvas, canvas}
+use Rattle.refusals.specs.declared.Verdict.{Verdict}
+use Rattle.refusals.specs.declared.Verdict.the-variants.{Passed, Refused}
+use Rattle.refusals.specs.Rules.{checked}
+use Rattle.picture.specs.Picture.{height, pictureCells, pictureColours}
+use Rattle.picture.specs.Painted.{room, scratchRoom, outsideSheet, tooLittleRoom, Painted, PaintedColoured}
+
+-- A window.
+
+-- the cells and the colours of a canvas are the picture's, in the rows of a window
+pub record IsRows (image : List ℕ) (v : Window) (c : Canvas) : Type 0 where
+  pub cells : c .cells ≡ pictureCells image (v .first) (v .rows)
+  pub colours : c .colours ≡ pictureColours image (v .first) (v .rows)
+
+-- the window before anything is painted, without the planes of colours and stamps
+abbrev pub plainWindow : Window → Canvas
+plainWindow v = canvas (replicate (v .rows * v .width) 0) [] []
+
+-- Bands.
+
+-- how many rows bands of these heights have
+unfoldable pub rowsOf : List ℕ → ℕ
+rowsOf [] = 0
+rowsOf (rows ∷ rest) = rows + rowsOf rest
+
+-- what each of these bands has, one after the other from a first row on
+unfoldable pub bands : (ℕ → ℕ → List ℕ) → ℕ → List ℕ → List ℕ
+bands band first [] = []
+bands band first (rows ∷ rest) = band first rows ++ bands band (first + rows) rest
+
+-- Two images.
+
+-- Two images that differ only in element list and run capacity: the same header but for the run capacity and the element count, the same tables before the
+-- elements, and after them.
+pub record OnlyListing (a b : List ℕ) : Type 0 where
+  pub before : (i : ℕ) → i < elementTable a .start → (i ≡ headerRuns → ⊥) → (i ≡ headerElements → ⊥) → word a i ≡ word b i
+  pub after : drop (tableEnd (elementTable a)) a ≡ drop (tableEnd (elementTable b)) b
+
+-- What paint answers and leaves.
+
+-- A lent buffer afterwards: so many words that were needed, and all beyond as it was.
+pub record Holds (n : ℕ) (words lent after : List ℕ) : Type 0 where
+  pub needed : take n after ≡ words
+  pub beyond : drop n after ≡ drop n lent
+
+-- The verdict: what check refuses paint refuses, with that code and place; else a band that leaves the sheet is refused, else a buffer that is short.
+pub record AsChecked (image : List ℕ) (first rows : ℕ) (lent : List Judged) (v : Verdict) : Type 0 where
+  pub refused : (checked image .code ≡ 0 → ⊥) → v ≡ Refused (checked image .code) (checked image .place)
+  pub outside : checked image .code ≡ 0 → height image < first + rows → v ≡ Refused outsideSheet 0
+  pub short : checked image .code ≡ 0 → first + rows ≤ height image → (place : ℕ) → FirstBad lent place → v ≡ Refused tooLittleRoom place
+  pub passed : checked image .code ≡ 0 → first + rows ≤ height image → every lent (λ j. j .good) ≡ true → v ≡ Passed
+
+-- paint passed, and left the band
+pub record Band (image : List ℕ) (first rows : ℕ) (lentCells lentScratch : List ℕ) (r : Painted) : Type 0 where
+  pub verdict : r .verdict ≡ Passed
+  -- the needed cells are those rows of the whole picture
+  pub cells :
+      Holds (room image rows) (take (room image rows) (drop (room image first) (pictureCells image 0 (height image)))) lentCells (r .cells)
+  -- the needed scratch is zeros
+  pub scratch : Holds (scratchRoom image) (replicate (scratchRoom image) 0) lentScratch (r .scratch)
+
+-- the same verdict, and if paint passes the same needed words
+pub record SameBand (image : List ℕ) (rows : ℕ) (r s : Painted) : Type 0 where
+  pub verdict : r .verdict ≡ s .verdict
+  pub cells : r .verdict ≡ Passed → take (room image rows) (r .cells) ≡ take (room image rows) (s .cells)
+  pub scratch : r .verdict ≡ Passed → take (scratchRoom image) (r .scratch) ≡ take (scratchRoom image) (s .scratch)
+
+-- The same with colours.
+
+-- every lent buffer is as it was
+pub record AllKept (lentCells lentColours lentStamps lentScratch : List ℕ) (r : PaintedColoured) : Type 0 where
+  pub cells : r .cells ≡ lentCells
+  pub colours : r .colours ≡ lentColours
+  pub stamps : r .stamps ≡ lentStamps
+  pub scratch : r .scratch ≡ lentScratch
+
+-- paint passed, and left the band with its colours
+pub record ColouredBand (image : List ℕ) (first rows : ℕ) (lentCells lentColours lentStamps lentScratch : List ℕ) (r : PaintedColoured) : Type 0 where
+  pub verdict : r .verdict ≡ Passed
+  -- the needed cells and colours are those rows of the whole picture
+  pub cells :
+      Holds (room image rows) (take (room image rows) (drop (room image first) (pictureCells image 0 (height image)))) lentCells (r .cells)
+  pub colours :
+      Holds (room image rows) (take (room image rows) (drop (room image first) (pictureColours image 0 (height image)))) lentColours (r .colours)
+  -- the needed stamps and scratch are zeros
+  pub stamps : Holds (room image rows) (replicate (room image rows) 0) lentStamps (r .stamps)
+  pub scratch : Holds (scratchRoom image) (replicate (scratchRoom image) 0) lentScratch (r .scratch)
+
+-- the same verdict, and if paint passes the same needed words
+pub record SameColouredBand (image : List ℕ) (rows : ℕ) (r s : PaintedColoured) : Type 0 where
+  pub verdict : r .verdict ≡ s .verdict
+  pub cells : r .verdict ≡ Passed → take (room image rows) (r .cells) ≡ take (room image rows) (s .cells)
+  pub colours : r .verdict ≡ Passed → take (room image rows) (r .colours) ≡ take (room image rows) (s .colours)
+  pub stamps : r .verdict ≡ Passed → take (room image rows) (r .stamps) ≡ take (room image rows) (s .stamps)
+  pub scratch : r .verdict ≡ Passed → take (scratchRoom image) (r .scratch) ≡ take (scratchRoom image) (s .scratch)

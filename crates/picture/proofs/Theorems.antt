@@ -1,0 +1,206 @@
+-- What holds of the picture, and of every band that is painted.
+use Prim.Native.Nat.{ℕ, _+_, _≤_}
+use mathlib.Core.List.{List, []}
+use mathlib.Core.Path.{_≡_, refl, sym, _∙_}
+use lib.ListN.{length, length-replicate}
+use Rattle.layout.specs.Tables.{tablesOf}
+use Rattle.canvas.specs.Cells.{AllPacked}
+use Rattle.rows.specs.declared.Window.{Window}
+use Rattle.things.specs.Things.{sheetOf}
+use Rattle.window.specs.Writes.{canvas}
+use Rattle.refusals.specs.declared.Verdict.the-variants.{Passed, Refused}
+use Rattle.refusals.specs.Rules.{checked}
+use Rattle.refusals.proofs.Theorems.{accepted-iff}
+use Rattle.picture.specs.Picture.{width, height, pictureRow, pictureCells, pictureColours}
+use Rattle.picture.specs.Sheet.{windowPainted, emptyWindow}
+use Rattle.picture.specs.Painted.{room, scratchRoom, plainJudged, colouredJudged, plainVerdict, colouredVerdict, Painted, painted, PaintedColoured, paintedColoured}
+use Rattle.picture.specs.ProofTable.{ProofTable, ExampleA}
+use Rattle.picture.proofs.Statements.{IsRows, plainWindow, rowsOf, bands, OnlyListing, AsChecked, Band, SameBand, AllKept, ColouredBand, SameColouredBand}
+use Rattle.picture.proofs.Table.{table, example}
+use Rattle.picture.proofs.Laws.{window-rows, plain-rows, cells-length, colours-length}
+use Rattle.picture.proofs.Cells.{glyph-size, code-point, row-of-packings}
+use Rattle.picture.proofs.ListFree.{one-picture}
+use Rattle.picture.proofs.Bands.{cells-bands, colours-bands}
+use Rattle.picture.proofs.Answers.{kept-on-refusal, holds-needed, same-needed, as-checked, plain-room, coloured-room, cells-of-whole, colours-of-whole}
+
+-- The cases P1 to P10 of the proof table hold.
+pub proof-table : ProofTable
+proof-table = table
+
+-- The example of `sheetcells` holds.
+pub example-a : ExampleA
+example-a = example
+
+-- The picture.
+
+-- Every cell of an accepted image's picture is the packing of valid parts.
+pub every-cell : (image : List ℕ) → checked image .code ≡ 0 → (y : ℕ) → AllPacked (pictureRow image y .cells)
+every-cell image accepted y =
+    let keeps = accepted-iff image .0 accepted in
+    row-of-packings image (tablesOf image) (glyph-size image) (λ k h. code-point _ (keeps .tables .fields .glyphs k h .value)) y
+
+-- A window that is painted at once is its rows of the picture side by side, cells and colours.
+pub window-is-rows :
+    (image : List ℕ) (v : Window) → v .width ≡ width image →
+    IsRows image v (windowPainted image (tablesOf image) v (emptyWindow v))
+window-is-rows image v wide = window-rows image v wide
+
+-- Without the planes of colours and stamps the cells are the same, and there are no colours.
+pub window-is-rows-plain :
+    (image : List ℕ) (v : Window) → v .width ≡ width image →
+    windowPainted image (tablesOf image) v (plainWindow v) ≡ canvas (pictureCells image (v .first) (v .rows)) [] []
+window-is-rows-plain image v wide = plain-rows image v wide
+
+-- So is the sheet, the window of all rows.
+pub sheet-is-rows : (image : List ℕ) → IsRows image (sheetOf image) (windowPainted image (tablesOf image) (sheetOf image) (emptyWindow (sheetOf image)))
+sheet-is-rows image = window-rows image (sheetOf image) refl
+
+-- Consecutive bands of any heights are the rows of all of them, cells and colours.
+pub bands-join :
+    (image : List ℕ) (first : ℕ) (heights : List ℕ) →
+    (bands (pictureCells image) first heights ≡ pictureCells image first (rowsOf heights))
+    × (bands (pictureColours image) first heights ≡ pictureColours image first (rowsOf heights))
+bands-join image first heights = (cells-bands image first heights, colours-bands image first heights)
+
+-- Two accepted images that differ only in element list and run capacity have one picture.
+pub list-free :
+    (a b : List ℕ) →
+    checked a .code ≡ 0 →
+    checked b .code ≡ 0 →
+    OnlyListing a b →
+    (y : ℕ) → pictureRow a y ≡ pictureRow b y
+list-free a b accepted accepted′ o y = one-picture a b o (accepted-iff a .0 accepted) (accepted-iff b .0 accepted′) y
+
+-- Painting without colours.
+
+-- Paint refuses what check refuses, with that code and place; else a band that leaves the sheet, else the first buffer that is short; else it passes.
+pub paint-refuses-as-check :
+    (image : List ℕ) (first rows : ℕ) (cells scratch : List ℕ) →
+    AsChecked image first rows (plainJudged image rows cells scratch) (painted image first rows cells scratch .verdict)
+unfolding painted
+paint-refuses-as-check image first rows cells scratch = as-checked image first rows (plainJudged image rows cells scratch)
+
+-- A refusal leaves every lent buffer as it was.
+pub refusal-keeps :
+    (image : List ℕ) (first rows : ℕ) (cells scratch : List ℕ) (code place : ℕ) →
+    painted image first rows cells scratch .verdict ≡ Refused code place →
+    (painted image first rows cells scratch .cells ≡ cells) × (painted image first rows cells scratch .scratch ≡ scratch)
+unfolding painted
+refusal-keeps image first rows cells scratch code place e =
+    (kept-on-refusal _ _ cells code place e, kept-on-refusal _ _ scratch code place e)
+
+-- Any two answers that paint's contract permits are equal.
+pub one-answer :
+    (image : List ℕ) (first rows : ℕ) (cells scratch : List ℕ) (r s : Painted) →
+    r ≡ painted image first rows cells scratch →
+    s ≡ painted image first rows cells scratch →
+    r ≡ s
+one-answer image first rows cells scratch r s p q = p ∙ sym q
+
+-- An accepted image, a band inside the sheet and enough room: paint passes, and leaves exactly those rows of the picture.
+pub band-is-picture :
+    (image : List ℕ) (first rows : ℕ) (cells scratch : List ℕ) →
+    checked image .code ≡ 0 →
+    first + rows ≤ height image →
+    room image rows ≤ length cells →
+    scratchRoom image ≤ length scratch →
+    Band image first rows cells scratch (painted image first rows cells scratch)
+unfolding painted
+band-is-picture image first rows cells scratch accepted inside roomy spare =
+    let good : plainVerdict image first rows cells scratch ≡ Passed
+    = as-checked image first rows _ .passed accepted inside (plain-room image rows cells scratch roomy spare) in
+    record {
+      verdict = good;
+      cells = holds-needed _ _ cells _ _ (cells-length image first rows) (cells-of-whole image first rows inside) good;
+      scratch = holds-needed _ _ scratch _ _ (length-replicate (scratchRoom image) 0) refl good;
+    }
+
+-- What stood in the lent buffers before does not matter, if they are as long.
+pub whichever-before :
+    (image : List ℕ) (first rows : ℕ) (cells cells′ scratch scratch′ : List ℕ) →
+    length cells ≡ length cells′ →
+    length scratch ≡ length scratch′ →
+    SameBand image rows (painted image first rows cells scratch) (painted image first rows cells′ scratch′)
+unfolding painted plainJudged
+whichever-before image first rows cells cells′ scratch scratch′ e e′ =
+    let same : plainVerdict image first rows cells scratch ≡ plainVerdict image first rows cells′ scratch′ = rw (e, e′) in
+    record {
+      verdict = same;
+      cells = same-needed _ _ _ cells cells′ _ (cells-length image first rows) same;
+      scratch = same-needed _ _ _ scratch scratch′ _ (length-replicate (scratchRoom image) 0) same;
+    }
+
+-- Painting with colours.
+
+-- Paint with colours refuses what check refuses, with that code and place; else a band that leaves the sheet, else the first buffer that is short; else it
+-- passes.
+pub paint-refuses-as-check-coloured :
+    (image : List ℕ) (first rows : ℕ) (cells colours stamps scratch : List ℕ) →
+    AsChecked image first rows (colouredJudged image rows cells colours stamps scratch) (paintedColoured image first rows cells colours stamps scratch .verdict)
+unfolding paintedColoured
+paint-refuses-as-check-coloured image first rows cells colours stamps scratch =
+    as-checked image first rows (colouredJudged image rows cells colours stamps scratch)
+
+-- A refusal leaves every lent buffer as it was.
+pub refusal-keeps-coloured :
+    (image : List ℕ) (first rows : ℕ) (cells colours stamps scratch : List ℕ) (code place : ℕ) →
+    paintedColoured image first rows cells colours stamps scratch .verdict ≡ Refused code place →
+    AllKept cells colours stamps scratch (paintedColoured image first rows cells colours stamps scratch)
+unfolding paintedColoured
+refusal-keeps-coloured image first rows cells colours stamps scratch code place e = record {
+  cells = kept-on-refusal _ _ cells code place e;
+  colours = kept-on-refusal _ _ colours code place e;
+  stamps = kept-on-refusal _ _ stamps code place e;
+  scratch = kept-on-refusal _ _ scratch code place e;
+}
+
+-- Any two answers that the contract permits are equal.
+pub one-answer-coloured :
+    (image : List ℕ) (first rows : ℕ) (cells colours stamps scratch : List ℕ) (r s : PaintedColoured) →
+    r ≡ paintedColoured image first rows cells colours stamps scratch →
+    s ≡ paintedColoured image first rows cells colours stamps scratch →
+    r ≡ s
+one-answer-coloured image first rows cells colours stamps scratch r s p q = p ∙ sym q
+
+-- An accepted image, a band inside the sheet and enough room: paint passes, and leaves exactly those rows of the picture, with their colours.
+pub band-is-picture-coloured :
+    (image : List ℕ) (first rows : ℕ) (cells colours stamps scratch : List ℕ) →
+    checked image .code ≡ 0 →
+    first + rows ≤ height image →
+    room image rows ≤ length cells →
+    room image rows ≤ length colours →
+    room image rows ≤ length stamps →
+    scratchRoom image ≤ length scratch →
+    ColouredBand image first rows cells colours stamps scratch (paintedColoured image first rows cells colours stamps scratch)
+unfolding paintedColoured
+band-is-picture-coloured image first rows cells colours stamps scratch accepted inside roomy wide tall spare =
+    let good : colouredVerdict image first rows cells colours stamps scratch ≡ Passed
+    = as-checked image first rows _ .passed accepted inside (coloured-room image rows cells scratch roomy spare colours stamps wide tall) in
+    record {
+      verdict = good;
+      cells = holds-needed _ _ cells _ _ (cells-length image first rows) (cells-of-whole image first rows inside) good;
+      colours = holds-needed _ _ colours _ _ (colours-length image first rows) (colours-of-whole image first rows inside) good;
+      stamps = holds-needed _ _ stamps _ _ (length-replicate (room image rows) 0) refl good;
+      scratch = holds-needed _ _ scratch _ _ (length-replicate (scratchRoom image) 0) refl good;
+    }
+
+-- What stood in the lent buffers before does not matter, if they are as long.
+pub whichever-before-coloured :
+    (image : List ℕ) (first rows : ℕ) (cells cells′ colours colours′ stamps stamps′ scratch scratch′ : List ℕ) →
+    length cells ≡ length cells′ →
+    length colours ≡ length colours′ →
+    length stamps ≡ length stamps′ →
+    length scratch ≡ length scratch′ →
+    SameColouredBand image rows (paintedColoured image first rows cells colours stamps scratch)
+    (paintedColoured image first rows cells′ colours′ stamps′ scratch′)
+unfolding paintedColoured colouredJudged
+whichever-before-coloured image first rows cells cells′ colours colours′ stamps stamps′ scratch scratch′ e f g h =
+    let same : colouredVerdict image first rows cells colours stamps scratch ≡ colouredVerdict image first rows cells′ colours′ stamps′ scratch′
+    = rw (e, f, g, h) in
+    record {
+      verdict = same;
+      cells = same-needed _ _ _ cells cells′ _ (cells-length image first rows) same;
+      colours = same-needed _ _ _ colours colours′ _ (colours-length image first rows) same;
+      stamps = same-needed _ _ _ stamps stamps′ _ (length-replicate (room image rows) 0) same;
+      scratch = same-needed _ _ _ scratch scratch′ _ (length-replicate (scratchRoom image) 0) same;
+    }
