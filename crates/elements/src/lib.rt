@@ -31,7 +31,8 @@ pub fn slot_of(kind: u32, index: usize) -> usize
     THINGS * ground::number(kind) + index
 }
 
-fn element_slot(image: &[u32], ts: Tables, k: usize) -> usize
+// The slot of the thing that an element names.
+pub fn element_slot(image: &[u32], ts: Tables, k: usize) -> usize
     requires { ⌜ Inside (now image) elementSize (ts .elements) × (k < ts .elements .count) ⌝ }
     ensures { λ r. ⌜ r ≡ elementSlot (now (image .entry)) ts k ⌝ }
 {

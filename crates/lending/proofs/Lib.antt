@@ -1,0 +1,2 @@
+-- Laws of the rules on bands and lent buffers.
+pub mod Laws
