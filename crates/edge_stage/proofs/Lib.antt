@@ -1,0 +1,2 @@
+-- Laws of the stage of edges.
+pub mod Laws

@@ -1,0 +1,2 @@
+-- What the stage of edges leaves.
+pub mod Laid

@@ -1,0 +1,93 @@
+-- A placed label and a node painted, and passed over.
+use Prim.Native.Nat.{ℕ, _<_}
+use mathlib.Core.Bool.{Bool, true, false, not}
+use mathlib.Core.List.{List}
+use mathlib.Core.Path.{_≡_, sym}
+use lib.Dec.{eqb}
+use lib.ListN.{getD}
+use Rattle.layout.specs.declared.Tables.{Tables}
+use Rattle.image.specs.declared.Header.{Header}
+use Rattle.image.specs.declared.Node.{Node}
+use Rattle.image.specs.declared.Span.{Span}
+use Rattle.image.specs.declared.Edge.{Edge}
+use Rattle.image.specs.declared.EdgeLabel.the-variants as label
+use Rattle.image.specs.declared.PlacedLabel.{PlacedLabel}
+use Rattle.image.specs.declared.ElementKind.the-variants as kind
+use Rattle.image.specs.Records.{headerOf, nodeAt, edgeAt, placedLabelAt, elementKindNumber}
+use Rattle.image.specs.Spans.{spanWords}
+use Rattle.elements.specs.Slots.{slotOf}
+use Rattle.rows.specs.declared.Window.{Window}
+use Rattle.frame.specs.Frames.{text}
+use Rattle.frame.specs.Nodes.{nodeSpots}
+use Rattle.frame.specs.PlacedLabels.{quoted, paintsUnder, placedLabelSpots}
+use Rattle.things.specs.Things.{rangesOf, labelGlyphs, thingTouches}
+use Rattle.window.specs.Writes.{Write, Canvas, tinted, colourTint}
+use Rattle.window.specs.Window.{inkWindow}
+use Rattle.window.proofs.Theorems.{ink-none, untouched}
+use Rattle.picture.specs.Writes.{writesOfLabel, placedLabelWrites, nodeWrites}
+use Rattle.stage.specs.Staged.{Staged}
+use Rattle.stage.proofs.Laws.{unmarked-touches}
+
+module _ (image : List ℕ) (ts : Tables) (v : Window) (marks ranges : List ℕ) (staged : Staged image ts v marks ranges) (k : ℕ) where
+  -- Writes into the window.
+  abbrev Inked : List Write → Canvas → Canvas → Type 0
+  Inked writes c d = d ≡ inkWindow v ranges writes c
+
+  -- A node that is marked, and one that is not.
+
+  pub node-painted :
+      (n : Node) (label : List ℕ) (h : Header) (c d : Canvas) →
+      n ≡ nodeAt image (ts .nodes) k →
+      label ≡ spanWords image (ts .glyphs) (n .label) →
+      h ≡ headerOf image →
+      Inked (tinted (colourTint 0) (nodeSpots ranges (h .«show_dummies») n label)) c d →
+      Inked (nodeWrites image ts k) c d
+  unfolding nodeWrites
+  node-painted n label h c d e l s p = rw (← staged .read, ← e, ← l, ← s) p
+
+  pub node-passed :
+      (number : ℕ) (marked : Bool) (c : Canvas) →
+      k < ts .nodes .count →
+      number ≡ elementKindNumber kind.Node →
+      marked ≡ not (eqb (getD marks (slotOf number k) 0) 0) →
+      marked ≡ false →
+      Inked (nodeWrites image ts k) c c
+  unfolding nodeWrites thingTouches
+  node-passed number marked c there n m f =
+      rw (staged .read)
+      (sym (untouched v (rangesOf image ts) (colourTint 0)
+      (nodeSpots (rangesOf image ts) (headerOf image .«show_dummies») (nodeAt image (ts .nodes) k)
+      (labelGlyphs image ts (nodeAt image (ts .nodes) k .label))) c
+      (unmarked-touches image ts v marks ranges kind.Node number k marked staged there n m f)))
+
+  -- A placed label whose edge has no label, one that the policy leaves out, and one that is painted.
+
+  module _
+      (p : PlacedLabel) (edge : ℕ) (e : Edge) (c : Canvas)
+      (at : p ≡ placedLabelAt image (ts .labels) k) (i : edge ≡ p .edge) (of : e ≡ edgeAt image (ts .edges) edge) where
+    writes-of : writesOfLabel image ts p e ≡ placedLabelWrites image ts k
+    unfolding placedLabelWrites
+    writes-of = rw (← at, ← i, ← of)
+
+    pub label-absent : e .label ≡ label.None → Inked (placedLabelWrites image ts k) c c
+    unfolding placedLabelSpots
+    label-absent none = rw (← writes-of, none) (sym (ink-none v ranges c))
+
+    module _
+        (h : Header) (span : Span) (paints : Bool)
+        (s : h ≡ headerOf image) (present : e .label ≡ label.Present span) (asked : paints ≡ paintsUnder (h .policy) p) where
+      pub label-left-out : paints ≡ false → Inked (placedLabelWrites image ts k) c c
+      unfolding placedLabelSpots
+      label-left-out refused = rw (← writes-of, present, ← s, ← asked, refused) (sym (ink-none v ranges c))
+
+      pub label-painted :
+          (x y : ℕ) (glyphs : List ℕ) (d : Canvas) →
+          paints ≡ true →
+          x ≡ p .x →
+          y ≡ p .y →
+          glyphs ≡ spanWords image (ts .glyphs) span →
+          Inked (tinted (colourTint (e .«label_colour»)) (text ranges x y (quoted glyphs))) c d →
+          Inked (placedLabelWrites image ts k) c d
+      unfolding placedLabelSpots
+      label-painted x y glyphs d allowed x-is y-is g inked =
+          rw (← writes-of, present, ← s, ← asked, allowed, ← staged .read, ← g, ← x-is, ← y-is) inked

@@ -1,0 +1,2 @@
+-- Laws of the stages of placed labels and of nodes.
+pub mod Laws

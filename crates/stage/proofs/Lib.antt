@@ -1,0 +1,2 @@
+-- Laws of a stage.
+pub mod Laws

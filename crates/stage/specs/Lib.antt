@@ -1,0 +1,2 @@
+-- What every stage of painting shares.
+pub mod Staged

@@ -1,0 +1,2 @@
+-- Laws of the stages of subgraphs.
+pub mod Laws
