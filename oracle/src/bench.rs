@@ -1,10 +1,15 @@
-//! `bench`: the product's check, linked as C would link it, timed beside the
-//! original's painting of the same sheet, and timed on tables that grow.
+//! `bench`: the product's check and painting, linked as C would link them, timed
+//! beside the original's painting of the same sheet; and the check timed on tables
+//! that grow.
+
+#[cfg(painting)]
+mod painting;
 
 use crate::engine::cell::Cell;
 use crate::image::Image;
 use crate::paint::Planned;
 use crate::sheets::{growths, sheets, Growth, Step};
+use crate::stubs::color::CellColor;
 use crate::{image, in_the_repository, wrong_use};
 use std::fs;
 use std::hint::black_box;
@@ -24,61 +29,103 @@ const SAMPLE: Duration = Duration::from_micros(1_000);
 /// The rows of a band on the handheld.
 const HANDHELD_ROWS: usize = 8;
 
-/// The original's painting of a whole sheet is one band of all its rows.
+/// A sheet painted whole is one band of all its rows.
 const ALL_ROWS: usize = usize::MAX;
 
-// ---- The product's check -------------------------------------------------
-
-extern "C" {
-    /// A slice crosses as a pointer and a length.
-    fn pivotdawn_check(
-        image: *const u32,
-        words: usize,
-        answer: *mut u64,
-        answer_words: usize,
-    ) -> u32;
-}
-
-/// Code, place and run count.
-fn product_check(words: &[u32]) -> (u32, u64, u64) {
-    let mut answer = [0; 2];
-    // SAFETY: both slices are lent for the call alone, with their own lengths;
-    // the callee is proved to stay inside them.
-    let code = unsafe {
-        pivotdawn_check(
-            words.as_ptr(),
-            words.len(),
-            answer.as_mut_ptr(),
-            answer.len(),
-        )
-    };
-    (code, answer[0], answer[1])
-}
-
 // ---- The sides -----------------------------------------------------------
+
+/// How a sheet is painted: in colour or plain, in bands of how many rows.
+#[derive(Clone, Copy)]
+struct Manner {
+    coloured: bool,
+    band: usize,
+}
 
 /// Whose work is timed on a sheet.
 #[derive(Clone, Copy)]
 enum Side {
     /// The product's check of the image.
     Check,
-    /// The original's painting in bands of so many rows.
-    Paint(usize),
+    /// The original's painting of all bands.
+    Original(Manner),
+    /// The product's, the check left out.
+    #[cfg(painting)]
+    Product(Manner),
 }
 
-/// In the order of the columns.
-const SIDES: [(&str, Side); 3] = [
-    ("check", Side::Check),
-    ("paint-whole", Side::Paint(ALL_ROWS)),
-    ("paint-bands", Side::Paint(HANDHELD_ROWS)),
+/// In the order of the columns that tell of the check.
+const CHECK_SIDES: [Side; 3] = [
+    Side::Check,
+    Side::Original(Manner {
+        coloured: false,
+        band: ALL_ROWS,
+    }),
+    Side::Original(Manner {
+        coloured: false,
+        band: HANDHELD_ROWS,
+    }),
 ];
+
+/// Every side there is.
+fn all_sides() -> Vec<Side> {
+    let mut sides = vec![Side::Check];
+    for coloured in [false, true] {
+        for band in [1, HANDHELD_ROWS, ALL_ROWS] {
+            let manner = Manner { coloured, band };
+            sides.push(Side::Original(manner));
+            #[cfg(painting)]
+            sides.push(Side::Product(manner));
+        }
+    }
+    sides
+}
+
+impl Side {
+    /// As `bench-once` is told it.
+    fn name(self) -> String {
+        match self {
+            Side::Check => "check".to_string(),
+            Side::Original(manner) => format!("original-{}", manner.name()),
+            #[cfg(painting)]
+            Side::Product(manner) => format!("product-{}", manner.name()),
+        }
+    }
+
+    fn work<'a>(self, words: &'a [u32], planned: &'a Planned<'a>) -> Work<'a> {
+        match self {
+            Side::Check => check_work(words),
+            Side::Original(manner) => Box::new(original_work(planned, manner)),
+            #[cfg(painting)]
+            Side::Product(manner) => Box::new(painting::work(words, planned, manner)),
+        }
+    }
+}
+
+impl Manner {
+    fn name(self) -> String {
+        let kind = if self.coloured { "coloured" } else { "plain" };
+        match self.band {
+            ALL_ROWS => format!("{kind}-whole"),
+            band => format!("{kind}-{band}"),
+        }
+    }
+}
 
 type Work<'a> = Box<dyn FnMut() + 'a>;
 
-fn work_of<'a>(side: Side, words: &'a [u32], planned: &'a Planned<'a>) -> Work<'a> {
-    match side {
-        Side::Check => check_work(words),
-        Side::Paint(band) => Box::new(paint_work(planned, band)),
+/// Every band of the sheet. The canvas is emptied for each band, as the original
+/// does; its buffers and the scratch are made before the time begins.
+fn original_work<'a>(planned: &'a Planned<'a>, manner: Manner) -> impl FnMut() + 'a {
+    let Manner { coloured, band } = manner;
+    let mut scratch = planned.scratch(coloured, band);
+    let mut cells = vec![Cell::EMPTY; planned.room(band)];
+    let mut colours = vec![CellColor::DEFAULT; planned.room(band)];
+    move || {
+        for rows in planned.bands(band) {
+            let cells = black_box(&mut cells[..]);
+            let colours = coloured.then_some(black_box(&mut colours[..]));
+            black_box(planned.paint_band(&mut scratch, cells, colours, rows));
+        }
     }
 }
 
@@ -88,16 +135,43 @@ fn check_work(words: &[u32]) -> Work<'_> {
     })
 }
 
-/// Every band of the sheet, plain. The canvas is emptied for each band, as the
-/// original does; its buffer and the scratch are made before the time begins.
-fn paint_work<'a>(planned: &'a Planned<'a>, band: usize) -> impl FnMut() + 'a {
-    let mut scratch = planned.scratch(false, band);
-    let mut cells = vec![Cell::EMPTY; planned.room(band)];
-    move || {
-        for rows in planned.bands(band) {
-            let cells = black_box(&mut cells[..]);
-            black_box(planned.paint_band(&mut scratch, cells, None, rows));
-        }
+// ---- The product's check -------------------------------------------------
+
+extern "C" {
+    /// A slice crosses as a pointer and a length.
+    #[cfg(painting)]
+    fn timed_check(image: *const u32, words: usize) -> u32;
+
+    #[cfg(not(painting))]
+    fn pivotdawn_check(
+        image: *const u32,
+        words: usize,
+        answer: *mut u64,
+        answer_words: usize,
+    ) -> u32;
+}
+
+/// The code.
+#[cfg(painting)]
+fn product_check(words: &[u32]) -> u32 {
+    // SAFETY: the slice is lent for the call alone, with its own length; the callee
+    // is proved to stay inside it.
+    unsafe { timed_check(words.as_ptr(), words.len()) }
+}
+
+/// The code, where the library has no painting yet.
+#[cfg(not(painting))]
+fn product_check(words: &[u32]) -> u32 {
+    let mut answer = [0; 2];
+    // SAFETY: both slices are lent for the call alone, with their own lengths;
+    // the callee is proved to stay inside them.
+    unsafe {
+        pivotdawn_check(
+            words.as_ptr(),
+            words.len(),
+            answer.as_mut_ptr(),
+            answer.len(),
+        )
     }
 }
 
@@ -165,12 +239,12 @@ pub fn once(options: &[String]) -> io::Result<ExitCode> {
     let [name, file] = options else {
         return Ok(wrong_use("bench-once SIDE FILE"));
     };
-    let Some((_, side)) = SIDES.iter().find(|(known, _)| known == name) else {
+    let Some(side) = all_sides().into_iter().find(|side| side.name() == *name) else {
         return Ok(wrong_use("bench-once: no such side"));
     };
     let words = image::words_of(&fs::read(file)?).unwrap_or_default();
     with_plan(&words, |planned| {
-        let mut work = work_of(*side, &words, planned);
+        let mut work = side.work(&words, planned);
         work();
         pivotdawn_counted(&mut work);
     });
@@ -191,7 +265,7 @@ const NO_REPEATED_BYTES: &str = "glibc.cpu.x86_rep_stosb_threshold=1000000000:\
      glibc.cpu.x86_rep_movsb_threshold=1000000000";
 
 /// Instructions of one call; none where valgrind does not tell.
-fn instructions(side: &str, file: &Path) -> Option<u64> {
+fn instructions(side: Side, file: &Path) -> Option<u64> {
     let counts = file.with_extension("counts");
     let mut out_file = std::ffi::OsString::from("--callgrind-out-file=");
     out_file.push(&counts);
@@ -200,7 +274,7 @@ fn instructions(side: &str, file: &Path) -> Option<u64> {
         .arg("--toggle-collect=pivotdawn_counted")
         .arg(out_file)
         .arg(std::env::current_exe().ok()?)
-        .args(["bench-once", side])
+        .args(["bench-once", &side.name()])
         .arg(file)
         .env("GLIBC_TUNABLES", NO_REPEATED_BYTES)
         .stderr(Stdio::null())
@@ -224,7 +298,18 @@ pub fn command(options: &[String]) -> io::Result<ExitCode> {
     let Some(rounds) = rounds else {
         return Ok(wrong_use("bench [ROUNDS], a number above 0"));
     };
-    bench_sheets(rounds)?;
+    let counting = valgrind_is_at_hand();
+    bench_sheets(rounds, counting)?;
+    #[cfg(painting)]
+    for coloured in [false, true] {
+        painting::bench(coloured, rounds, counting)?;
+    }
+    if !counting {
+        writeln!(
+            io::stdout(),
+            "\nvalgrind is not at hand; no instructions were counted"
+        )?;
+    }
     bench_growth(rounds)?;
     Ok(ExitCode::SUCCESS)
 }
@@ -238,8 +323,18 @@ fn with_plan(words: &[u32], call: impl FnOnce(&Planned<'_>)) {
 }
 
 fn assert_accepted(what: &str, words: &[u32]) {
-    let (code, place, _) = product_check(words);
-    assert_eq!((code, place), (0, 0), "{what} is refused");
+    assert_eq!(product_check(words), 0, "{what} is refused");
+}
+
+/// Seconds for one call of each side.
+fn seconds_of(sides: &[Side], words: &[u32], rounds: u32) -> Vec<f64> {
+    let mut seconds = Vec::new();
+    with_plan(words, |planned| {
+        let works = sides.iter().map(|side| side.work(words, planned));
+        let mut works: Vec<Work<'_>> = works.collect();
+        seconds = least_seconds(&mut works, rounds);
+    });
+    seconds
 }
 
 fn write_sheet(name: &str, words: &[u32]) -> io::Result<PathBuf> {
@@ -251,9 +346,8 @@ fn write_sheet(name: &str, words: &[u32]) -> io::Result<PathBuf> {
     Ok(file)
 }
 
-fn bench_sheets(rounds: u32) -> io::Result<()> {
+fn bench_sheets(rounds: u32, counting: bool) -> io::Result<()> {
     let mut out = io::stdout();
-    let counting = valgrind_is_at_hand();
     writeln!(
         out,
         "The check against the original's painting of the sheet, plain, planning left out:\n\
@@ -269,23 +363,13 @@ fn bench_sheets(rounds: u32) -> io::Result<()> {
     for sheet in sheets() {
         assert_accepted(sheet.name, &sheet.words);
         let file = write_sheet(sheet.name, &sheet.words)?;
-        let mut seconds = Vec::new();
-        with_plan(&sheet.words, |planned| {
-            let mut works = SIDES.map(|(_, side)| work_of(side, &sheet.words, planned));
-            seconds = least_seconds(&mut works, rounds);
-        });
+        let seconds = seconds_of(&CHECK_SIDES, &sheet.words, rounds);
         write!(out, "{:<12} {:>6} ", sheet.name, sheet.words.len())?;
         write!(out, "{:>10.2} ", seconds[0] * 1e6)?;
         let [whole, bands] = [1, 2].map(|nth| seconds[0] / seconds[nth]);
         write!(out, "{whole:>8.4} {bands:>12.4} ")?;
-        let counts = SIDES.map(|(side, _)| counting.then(|| instructions(side, &file))?);
+        let counts = CHECK_SIDES.map(|side| counting.then(|| instructions(side, &file))?);
         writeln!(out, "{}", counted(counts))?;
-    }
-    if !counting {
-        writeln!(
-            out,
-            "\nvalgrind is not at hand; no instructions were counted"
-        )?;
     }
     Ok(())
 }

@@ -3,6 +3,8 @@
 use crate::layout::{
     ELEMENTS, FIRST_COUNT_WORD, HEADER_LIMITS, HEADER_WORDS, RECORD_WORDS, TABLES,
 };
+#[cfg(original)]
+use crate::layout::{GLYPHS, POINTS};
 
 /// An edge without label or colour.
 pub fn edge_record(ends: [u32; 4], flags: u32, abc: [u32; 3]) -> Vec<u32> {
@@ -63,6 +65,27 @@ impl Draft {
     pub fn add(&mut self, table: usize, record: &[u32]) -> u32 {
         self.tables[table].push(record.to_vec());
         self.count(table) - 1
+    }
+
+    /// Adds a label's glyphs; answers its start and count.
+    #[cfg(original)]
+    pub fn write(&mut self, text: &str) -> [u32; 2] {
+        let start = self.count(GLYPHS);
+        for glyph in text.chars() {
+            self.add(GLYPHS, &[glyph as u32]);
+        }
+        [start, self.count(GLYPHS) - start]
+    }
+
+    /// Adds the points of a path; answers the first one's number and how many they
+    /// are.
+    #[cfg(original)]
+    pub fn add_points(&mut self, points: impl IntoIterator<Item = [u32; 2]>) -> [u32; 2] {
+        let first = self.count(POINTS);
+        for point in points {
+            self.add(POINTS, &point);
+        }
+        [first, self.count(POINTS) - first]
     }
 
     /// The word at which a field of a record stands in the image.

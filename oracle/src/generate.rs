@@ -4,6 +4,7 @@
 //! accepted: their element list is made from the rows that the slow check
 //! finds touched.
 
+use crate::dice::Dice;
 use crate::draft::{edge_record, Draft};
 use crate::layout::{
     path_flags, BLANK, BOXED, CODE_POINT_LIMIT, COORDINATE_LIMIT, CORNER, DIRECT, EDGES, ELEMENTS,
@@ -13,52 +14,6 @@ use crate::layout::{
     WIDTH_RANGES, X_FLOW_BIT,
 };
 use crate::slow_check::{slow_check, touched_rows, Answer};
-
-// ---- Chance --------------------------------------------------------------
-
-/// The splitmix64 sequence: small, and the same on every machine.
-struct Dice {
-    state: u64,
-}
-
-impl Dice {
-    fn new(seed: u64) -> Dice {
-        Dice { state: seed }
-    }
-
-    fn roll(&mut self) -> u64 {
-        self.state = self.state.wrapping_add(0x9E37_79B9_7F4A_7C15);
-        let mut mixed = self.state;
-        mixed = (mixed ^ (mixed >> 30)).wrapping_mul(0xBF58_476D_1CE4_E5B9);
-        mixed = (mixed ^ (mixed >> 27)).wrapping_mul(0x94D0_49BB_1331_11EB);
-        mixed ^ (mixed >> 31)
-    }
-
-    /// A number below the bound; 0 where the bound is 0.
-    fn below(&mut self, bound: u32) -> u32 {
-        (self.roll() % u64::from(bound.max(1))) as u32
-    }
-
-    fn index(&mut self, length: usize) -> usize {
-        self.below(length as u32) as usize
-    }
-
-    fn percent(&mut self, chance: u32) -> bool {
-        self.below(100) < chance
-    }
-
-    fn one_in(&mut self, times: u32) -> bool {
-        self.below(times) == 0
-    }
-
-    fn any_word(&mut self) -> u32 {
-        self.roll() as u32
-    }
-
-    fn pick(&mut self, choices: &[u32]) -> u32 {
-        choices[self.index(choices.len())]
-    }
-}
 
 fn answer_to(draft: &Draft) -> Answer {
     slow_check(&draft.to_words())
@@ -1232,7 +1187,7 @@ fn targets_of_code_9_by_one_row(base: &Draft) -> Vec<Vec<u32>> {
 }
 
 /// The shortest list: only what touches the sheet, and no row too many.
-pub fn listed_exactly(base: &Draft) -> Draft {
+fn listed_exactly(base: &Draft) -> Draft {
     let mut draft = base.clone();
     draft.tables[ELEMENTS].clear();
     for (kind, index, (first_row, last_row)) in touching_things(base) {
@@ -1240,6 +1195,15 @@ pub fn listed_exactly(base: &Draft) -> Draft {
     }
     draft.sort_elements();
     draft
+}
+
+/// With that list and the run capacity that the slow check finds right.
+#[cfg(original)]
+pub fn accepted(base: &Draft) -> Vec<u32> {
+    let mut draft = listed_exactly(base);
+    draft.head[RUN_CAPACITY_WORD] = HEADER_LIMITS[RUN_CAPACITY_WORD];
+    draft.head[RUN_CAPACITY_WORD] = answer_to(&draft).runs;
+    draft.to_words()
 }
 
 /// An edge with one run more than the capacity holds.

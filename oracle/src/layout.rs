@@ -70,6 +70,16 @@ pub const MULTI_SEGMENT: u32 = 3;
 pub const ORTHOGONAL: u32 = 4;
 pub const SPLINE: u32 = 5;
 
+/// By these numbers.
+pub const PATH_NAMES: [&str; 6] = [
+    "Direct",
+    "Corner",
+    "SideChannel",
+    "MultiSegment",
+    "Orthogonal",
+    "Spline",
+];
+
 pub const X_FLOW_BIT: u32 = 1 << 28;
 pub const REVERSED_BIT: u32 = 1 << 27;
 pub const START_MARKER_BIT: u32 = 1 << 26;
@@ -91,3 +101,13 @@ pub const SELF_LOOP_BIT: u32 = 1 << 29;
 
 /// In a subgraph's flags: "label position 1 bit, 0 InsideTop, 1 InsideBottom".
 pub const INSIDE_BOTTOM_BIT: u32 = 1 << 29;
+
+/// "Room: width × rows words each, scratch 8 × run capacity + elements", in the order
+/// cells, colours, stamps, scratch. A word that the image lacks is 0.
+#[cfg(original)]
+pub fn room(words: &[u32], rows: usize) -> [usize; 4] {
+    let head = |place: usize| words.get(place).copied().unwrap_or(0) as usize;
+    let scratch = 8 * head(RUN_CAPACITY_WORD) + head(FIRST_COUNT_WORD + ELEMENTS);
+    let plane = head(0) * rows;
+    [plane, plane, plane, scratch]
+}

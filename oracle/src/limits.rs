@@ -15,19 +15,19 @@ mod order;
 mod ranges;
 mod runs;
 
+#[cfg(original)]
+pub use order::broken_for;
+
+use crate::asking::bytes_of;
 use crate::draft::{edge_record, Draft};
 use crate::layout::{
     path_flags, BLANK, DIRECT, EDGES, GLYPHS, NODES, PLACED_LABELS, POINTS, SUBGRAPHS, WIDTH_RANGES,
 };
 use crate::slow_check::{slow_check, Answer};
-use crate::{in_the_repository, wrong_use};
-use std::collections::BTreeSet;
+use crate::stored::{self, Stored};
+use crate::wrong_use;
 use std::io::{self, Write as _};
 use std::process::ExitCode;
-
-const STREAM: &str = "crates/checklines/stdin";
-const ANSWERS: &str = "crates/checklines/stdout";
-const NAMES: &str = "oracle/limits.txt";
 
 struct Case {
     name: String,
@@ -122,53 +122,23 @@ fn shown(value: u32) -> String {
     }
 }
 
-/// What the three files hold.
-struct Files {
-    stream: Vec<u8>,
-    answers: String,
-    names: String,
-    images: usize,
-}
-
 /// The stream ends inside an image, so the last line is `unread`.
-fn files_of(cases: &[Case]) -> Files {
-    let mut files = Files {
-        stream: Vec::new(),
-        answers: String::new(),
-        names: String::new(),
-        images: 0,
-    };
+fn stored_of(cases: &[Case]) -> Stored {
+    let mut stored = Stored::of("limits", "checklines");
     for case in cases {
-        files.take(&case.name, &case.words, &line_of(slow_check(&case.words)));
+        let answer = line_of(slow_check(&case.words));
+        stored.take(&case.name, &stream_of(&case.words), &answer, &answer);
     }
     let name = "an image of 12 words that breaks off inside its last word";
-    files.take(name, &[0; 12], "unread");
-    files.stream.pop();
-    files
-}
-
-impl Files {
-    fn take(&mut self, name: &str, words: &[u32], answer: &str) {
-        self.images += 1;
-        self.stream.extend(stream_of(words));
-        self.answers += &format!("{answer}\n");
-        self.names += &format!("{}. {name}: {answer}\n", self.images);
-    }
-
-    fn stored(&self) -> [(&'static str, &[u8]); 3] {
-        [
-            (STREAM, &self.stream),
-            (ANSWERS, self.answers.as_bytes()),
-            (NAMES, self.names.as_bytes()),
-        ]
-    }
+    let mut broken_off = stream_of(&[0; 12]);
+    broken_off.pop();
+    stored.take(name, &broken_off, "unread", "unread");
+    stored
 }
 
 /// An image as `checklines` reads it: the number of its words, then the words.
 pub fn stream_of(words: &[u32]) -> Vec<u8> {
-    let length = words.len() as u32;
-    let all = std::iter::once(&length).chain(words);
-    all.flat_map(|word| word.to_be_bytes()).collect()
+    bytes_of(&[&[words.len() as u32], words].concat())
 }
 
 /// An answer as `checklines` prints it.
@@ -177,41 +147,26 @@ pub fn line_of(answer: Answer) -> String {
 }
 
 pub fn command(options: &[String]) -> io::Result<ExitCode> {
-    let writes = match options {
-        [] => false,
-        [option] if option == "--write" => true,
-        _ => return Ok(wrong_use("limits [--write]")),
+    let Some(writes) = stored::writes(options) else {
+        return Ok(wrong_use("limits [--write]"));
     };
     let cases = all_cases();
-    let faults = faults_of(&cases);
-    for fault in &faults {
-        writeln!(io::stdout(), "{fault}")?;
-    }
-    if !faults.is_empty() {
+    if stored::write_faults(&faults_of(&cases))? {
         return Ok(ExitCode::FAILURE);
     }
     write_counts(&cases)?;
-    let files = files_of(&cases);
-    match writes {
-        true => write(&files),
-        false => compare(&files),
-    }
+    stored_of(&cases).finish(writes, "images")
 }
 
-/// Where the slow check does not answer what a case states, and names given
-/// twice, by which no reader could find a case.
+/// Where the slow check does not answer what a case states, and names given twice.
 fn faults_of(cases: &[Case]) -> Vec<String> {
-    let mut faults = Vec::new();
-    let mut names = BTreeSet::new();
+    let mut faults = stored::repeated(cases.iter().map(|case| &case.name));
     for case in cases {
         let answered = slow_check(&case.words);
         if answered != case.stated {
             let (stated, answered) = (line_of(case.stated), line_of(answered));
             let name = &case.name;
             faults.push(format!("{name}: {stated} is stated, {answered} answered"));
-        }
-        if !names.insert(&case.name) {
-            faults.push(format!("{}: two cases have this name", case.name));
         }
     }
     faults
@@ -223,38 +178,4 @@ fn write_counts(cases: &[Case]) -> io::Result<()> {
         writeln!(io::stdout(), "code {code}: {images}")?;
     }
     Ok(())
-}
-
-fn write(files: &Files) -> io::Result<ExitCode> {
-    for (path, bytes) in files.stored() {
-        let path = in_the_repository(path);
-        std::fs::create_dir_all(path.parent().unwrap_or(&path))?;
-        std::fs::write(path, bytes)?;
-    }
-    let bytes = files.stream.len();
-    writeln!(
-        io::stdout(),
-        "limits written: {} images, {bytes} bytes",
-        files.images
-    )?;
-    Ok(ExitCode::SUCCESS)
-}
-
-fn compare(files: &Files) -> io::Result<ExitCode> {
-    let mut agree = true;
-    for (path, bytes) in files.stored() {
-        let stored = std::fs::read(in_the_repository(path));
-        if !stored.is_ok_and(|stored| stored == bytes) {
-            writeln!(
-                io::stdout(),
-                "{path} is not what limits --write would write"
-            )?;
-            agree = false;
-        }
-    }
-    if !agree {
-        return Ok(ExitCode::FAILURE);
-    }
-    writeln!(io::stdout(), "limits agree: {} images", files.images)?;
-    Ok(ExitCode::SUCCESS)
 }

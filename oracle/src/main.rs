@@ -5,11 +5,17 @@
 
 extern crate alloc;
 
+mod asking;
 #[cfg(product)]
 mod bench;
 #[cfg(original)]
 mod cases;
 mod compare_check;
+#[cfg(original)]
+mod compare_edges;
+#[cfg(original)]
+mod compare_paint;
+mod dice;
 mod draft;
 #[cfg(original)]
 mod engine;
@@ -21,9 +27,14 @@ mod layout;
 mod limits;
 #[cfg(original)]
 mod paint;
+#[cfg(original)]
+mod paint_cases;
+#[cfg(original)]
+mod paintlines;
 #[cfg(product)]
 mod sheets;
 mod slow_check;
+mod stored;
 #[cfg(original)]
 mod stubs;
 #[cfg(original)]
@@ -45,6 +56,8 @@ fn main() -> ExitCode {
         #[cfg(original)]
         "paint" => paint::command(rest),
         #[cfg(original)]
+        "paint-cases" => paint_cases::command(rest),
+        #[cfg(original)]
         "vectors" => vectors::command(rest),
         #[cfg(product)]
         "bench" => bench::command(rest),
@@ -52,6 +65,10 @@ fn main() -> ExitCode {
         "bench-once" => bench::once(rest),
         "limits" => limits::command(rest),
         "compare-check" => compare_check::command(rest),
+        #[cfg(original)]
+        "compare-edges" => compare_edges::command(rest),
+        #[cfg(original)]
+        "compare-paint" => compare_paint::command(rest),
         other => return wrong_use(&format!("no command {other}")),
     };
     // A reader that has seen enough may close the pipe: no reason to panic.

@@ -4,14 +4,12 @@
 
 use crate::draft::{edge_record, Draft};
 use crate::full::full_draft;
-use crate::generate::listed_exactly;
+use crate::generate::accepted;
 use crate::layout::{
     path_flags, BLANK, BOXED, CORNER, DIRECT, EDGES, ELEMENTS, END_MARKER_BIT, FIRST_COUNT_WORD,
     GLYPHS, HEADER_LIMITS, LABEL_PRESENT_BIT, MULTI_SEGMENT, NODES, ORTHOGONAL, PLACED_LABELS,
-    POINTS, RUN_CAPACITY_WORD, SIDE_CHANNEL, SIMPLE, START_MARKER_BIT, SUBGRAPHS, WIDTH_RANGES,
-    X_FLOW_BIT,
+    POINTS, SIDE_CHANNEL, SIMPLE, START_MARKER_BIT, SUBGRAPHS, WIDTH_RANGES, X_FLOW_BIT,
 };
-use crate::slow_check::slow_check;
 
 /// A zero-width glyph, and the width range that makes it so.
 const COMBINING: u32 = 0x0301;
@@ -40,7 +38,7 @@ pub fn sheets() -> Vec<Sheet> {
         .into_iter()
         .map(|(name, draft)| Sheet {
             name,
-            words: accepted(draft),
+            words: accepted(&draft),
         })
         .collect();
     // Its list is as long as a list can be, and is its own.
@@ -51,27 +49,10 @@ pub fn sheets() -> Vec<Sheet> {
     sheets
 }
 
-/// With the list and the run capacity that the slow check finds right.
-fn accepted(draft: Draft) -> Vec<u32> {
-    let mut draft = listed_exactly(&draft);
-    draft.head[RUN_CAPACITY_WORD] = HEADER_LIMITS[RUN_CAPACITY_WORD];
-    draft.head[RUN_CAPACITY_WORD] = slow_check(&draft.to_words()).runs;
-    draft.to_words()
-}
-
 // ---- Parts of a sheet ----------------------------------------------------
 
-/// A label's glyphs; answers its start and count.
-fn write(draft: &mut Draft, text: &str) -> [u32; 2] {
-    let start = draft.count(GLYPHS);
-    for glyph in text.chars() {
-        draft.add(GLYPHS, &[glyph as u32]);
-    }
-    [start, draft.count(GLYPHS) - start]
-}
-
 fn add_box(draft: &mut Draft, [x, y, width, height]: [u32; 4], text: &str) {
-    let [start, count] = write(draft, text);
+    let [start, count] = draft.write(text);
     draft.add(
         NODES,
         &[x, y, width, height, start, count, BOXED << 30, 0, 0],
@@ -79,7 +60,7 @@ fn add_box(draft: &mut Draft, [x, y, width, height]: [u32; 4], text: &str) {
 }
 
 fn add_group(draft: &mut Draft, [x, y, width, height]: [u32; 4], text: &str) {
-    let [start, count] = write(draft, text);
+    let [start, count] = draft.write(text);
     draft.add(
         SUBGRAPHS,
         &[x, y, width, height, start, count, LIGHT_BORDER, 0],
@@ -90,15 +71,6 @@ fn add_group(draft: &mut Draft, [x, y, width, height]: [u32; 4], text: &str) {
 fn add_edge(draft: &mut Draft, ends: [u32; 4], path: u32, more: u32, abc: [u32; 3]) -> u32 {
     let flags = path_flags(path) | END_MARKER_BIT | more;
     draft.add(EDGES, &edge_record(ends, flags, abc))
-}
-
-/// The points of a path; answers the first one's number and how many they are.
-fn add_points(draft: &mut Draft, points: impl IntoIterator<Item = [u32; 2]>) -> [u32; 2] {
-    let first = draft.count(POINTS);
-    for point in points {
-        draft.add(POINTS, &point);
-    }
-    [first, draft.count(POINTS) - first]
 }
 
 // ---- The sheets ----------------------------------------------------------
@@ -149,11 +121,11 @@ fn add_dense_edges(draft: &mut Draft, x: u32, y: u32) {
         0 => add_edge(draft, right_below, CORNER, 0, [y + 2, 0, 0]),
         1 => add_edge(draft, right_below, SIDE_CHANNEL, 0, [x + 7, y + 1, y + 3]),
         2 => {
-            let [first, count] = add_points(draft, [[x + 3, y + 1], [x + 9, y + 2]]);
+            let [first, count] = draft.add_points([[x + 3, y + 1], [x + 9, y + 2]]);
             add_edge(draft, right_below, MULTI_SEGMENT, 0, [first, count, 0])
         }
         _ => {
-            let [first, count] = add_points(draft, [[x, y + 2], [x + 14, y + 2]]);
+            let [first, count] = draft.add_points([[x, y + 2], [x + 14, y + 2]]);
             add_edge(draft, right_below, ORTHOGONAL, 0, [first, count, 0])
         }
     };
@@ -162,7 +134,7 @@ fn add_dense_edges(draft: &mut Draft, x: u32, y: u32) {
 }
 
 fn label_edge(draft: &mut Draft, edge: u32, [x, y]: [u32; 2]) {
-    let [start, count] = write(draft, "oil");
+    let [start, count] = draft.write("oil");
     let record = &mut draft.tables[EDGES][edge as usize];
     record[4] |= LABEL_PRESENT_BIT;
     (record[8], record[9]) = (start, count);
@@ -188,7 +160,7 @@ fn tall() -> Draft {
             }
             _ => {
                 let middle = [[x + 1, top + 225], [x, top + 450], [x + 1, top + 675]];
-                let [first, count] = add_points(&mut draft, middle);
+                let [first, count] = draft.add_points(middle);
                 add_edge(&mut draft, ends, MULTI_SEGMENT, 0, [first, count, 0])
             }
         };
@@ -220,7 +192,7 @@ fn long_cables() -> Draft {
                 _ => [[far, row], [near, row]],
             }
         });
-        let [first, count] = add_points(&mut draft, points);
+        let [first, count] = draft.add_points(points);
         let ends = [10 + nth, 0, 10 + nth, 399];
         let abc = [first, count, 0];
         add_edge(&mut draft, ends, ORTHOGONAL, START_MARKER_BIT, abc);
@@ -242,7 +214,7 @@ fn staircase(path: u32, points: u32) -> Draft {
         let across = (nth + 1) / 2 % 120;
         [across.min(120 - across), 1 + nth / 2]
     };
-    let [first, count] = add_points(&mut draft, (0..points).map(place));
+    let [first, count] = draft.add_points((0..points).map(place));
     let [x, y] = place(points);
     add_edge(&mut draft, [0, 0, x, y + 1], path, 0, [first, count, 0]);
     draft
@@ -294,8 +266,8 @@ fn step(table: usize, count: u32, made: fn(u32) -> Draft) -> Step {
     if table != ELEMENTS {
         return Step {
             count,
-            with: accepted(draft),
-            without: accepted(made(0)),
+            with: accepted(&draft),
+            without: accepted(&made(0)),
         };
     }
     // Its list was made by hand, and without it the things stay.
@@ -310,7 +282,7 @@ fn step(table: usize, count: u32, made: fn(u32) -> Draft) -> Step {
 
 fn boxes(count: u32) -> Draft {
     let mut draft = Draft::blank_sheet(200, 2_100);
-    write(&mut draft, "Gear 42");
+    draft.write("Gear 42");
     for nth in 0..count {
         draft.add(NODES, &[5, 2 * nth, 11, 3, 0, 7, BOXED << 30, 0, 0]);
     }
@@ -328,7 +300,7 @@ fn bent_edges(count: u32) -> Draft {
 
 fn groups(count: u32) -> Draft {
     let mut draft = Draft::blank_sheet(200, 2_100);
-    write(&mut draft, "Gearbox");
+    draft.write("Gearbox");
     for nth in 0..count {
         draft.add(SUBGRAPHS, &[5, 2 * nth, 30, 5, 0, 7, LIGHT_BORDER, 0]);
     }

@@ -6,7 +6,8 @@ use super::{add_points, Cases};
 use crate::draft::{edge_record, Draft};
 use crate::layout::{
     path_flags, COORDINATE_LIMIT, CORNER, DIRECT, EDGES, END_MARKER_BIT, MULTI_SEGMENT, ORTHOGONAL,
-    REVERSED_BIT, RUN_CAPACITY_WORD, SIDE_CHANNEL, SPLINE, START_MARKER_BIT, X_FLOW_BIT,
+    PATH_NAMES, REVERSED_BIT, RUN_CAPACITY_WORD, SIDE_CHANNEL, SPLINE, START_MARKER_BIT,
+    X_FLOW_BIT,
 };
 
 const FAR: u32 = COORDINATE_LIMIT;
@@ -67,16 +68,8 @@ impl Edge<'_> {
 }
 
 fn path_name(path: u32, flow: u32) -> String {
-    let paths = [
-        "Direct",
-        "Corner",
-        "SideChannel",
-        "MultiSegment",
-        "Orthogonal",
-        "Spline",
-    ];
     let axis = if flow == X { "X" } else { "Y" };
-    format!("{} {axis}", paths[path as usize])
+    format!("{} {axis}", PATH_NAMES[path as usize])
 }
 
 /// A path without points: its ends, and what it has in a, b and c.

@@ -74,6 +74,13 @@ fn place_of(draft: &Draft, code: u32) -> u32 {
 
 /// An image broken for these codes, ascending, gets the first of them.
 fn refused_for(cases: &mut Cases, codes: &[u32]) {
+    let (words, place) = broken_for(codes);
+    let name = format!("an image broken for {codes:?}");
+    cases.refused_words(name, words, codes[0], place);
+}
+
+/// The image, and the place of the first code.
+pub fn broken_for(codes: &[u32]) -> (Vec<u32>, u32) {
     let mut draft = whole();
     for code in codes {
         break_rule(&mut draft, *code);
@@ -86,8 +93,7 @@ fn refused_for(cases: &mut Cases, codes: &[u32]) {
     if codes.contains(&1) {
         words.truncate(HEADER_WORDS - 1);
     }
-    let name = format!("an image broken for {codes:?}");
-    cases.refused_words(name, words, codes[0], place);
+    (words, place)
 }
 
 /// "first such word" inside a record: every word from this field on is at

@@ -1,0 +1,155 @@
+//! `paint-cases`: named requests to the program `paintlines`, which reads them as its
+//! stored standard input. What it must answer is what the original paints and what
+//! the slow check refuses.
+//!
+//! Each case also states its code and place, worked out by hand from how it is
+//! made, so that a case cannot quietly come to test something else.
+
+mod bands;
+mod edges;
+mod refused;
+mod things;
+mod together;
+
+use crate::cases::{self, Asked};
+use crate::draft::Draft;
+use crate::generate::accepted;
+use crate::paintlines::{Request, Subject, LAST_CODE};
+use crate::stored::{self, Stored};
+use crate::wrong_use;
+use std::io::{self, Write as _};
+use std::process::ExitCode;
+use std::rc::Rc;
+
+/// The weights of edges and borders.
+const WEIGHTS: [(u32, &str); 3] = [(1, "Dashed"), (2, "Light"), (3, "Double")];
+
+struct Case {
+    name: String,
+    request: Request,
+    /// Code and place.
+    stated: (u32, u32),
+}
+
+#[derive(Default)]
+struct Cases {
+    list: Vec<Case>,
+}
+
+impl Cases {
+    fn ask(&mut self, name: impl Into<String>, request: Request, stated: (u32, u32)) {
+        let name = name.into();
+        self.list.push(Case {
+            name,
+            request,
+            stated,
+        });
+    }
+
+    /// The whole sheet, coloured, listed exactly, each buffer a word longer than
+    /// needed.
+    fn painted(&mut self, name: impl Into<String>, draft: &Draft) {
+        let request = whole(subject_of(draft), true);
+        self.ask(name, request, (0, 0));
+    }
+}
+
+/// Listed exactly, with just the run capacity that it needs.
+fn subject_of(draft: &Draft) -> Rc<Subject> {
+    Rc::new(Subject::painted(accepted(draft)))
+}
+
+/// All rows, in the long form.
+fn whole(subject: Rc<Subject>, coloured: bool) -> Request {
+    let rows = subject.height();
+    band(subject, coloured, (0, rows))
+}
+
+/// A band that is on the sheet, each buffer a word longer than needed.
+fn band(subject: Rc<Subject>, coloured: bool, (first, rows): (usize, usize)) -> Request {
+    let lent = subject.room(rows).map(|wanted| wanted + 1);
+    Request {
+        subject,
+        coloured,
+        short: false,
+        first: first as u64,
+        rows: rows as u64,
+        lent,
+    }
+}
+
+fn all_cases() -> Vec<Case> {
+    let mut cases = Cases::default();
+    of_the_document(&mut cases);
+    edges::add(&mut cases);
+    things::add(&mut cases);
+    together::add(&mut cases);
+    bands::add(&mut cases);
+    refused::add(&mut cases);
+    cases.list
+}
+
+/// The images of the proof table and the example, plain and coloured. One of them
+/// is refused with code 6.
+fn of_the_document(cases: &mut Cases) {
+    for case in cases::all() {
+        let Asked::Image(words) = case.asked else {
+            continue;
+        };
+        let subject = Rc::new(Subject::painted(words));
+        let stated = match case.name {
+            "corner-row-below-0" => (6, 12),
+            _ => (0, 0),
+        };
+        for (kind, coloured) in [("plain", false), ("coloured", true)] {
+            let request = whole(Rc::clone(&subject), coloured);
+            cases.ask(format!("{}, {kind}", case.name), request, stated);
+        }
+    }
+}
+
+pub fn command(options: &[String]) -> io::Result<ExitCode> {
+    let Some(writes) = stored::writes(options) else {
+        return Ok(wrong_use("paint-cases [--write]"));
+    };
+    let cases = all_cases();
+    if stored::write_faults(&faults_of(&cases))? {
+        return Ok(ExitCode::FAILURE);
+    }
+    for code in 0..=LAST_CODE {
+        let requests = cases.iter().filter(|case| case.stated.0 == code).count();
+        writeln!(io::stdout(), "code {code}: {requests}")?;
+    }
+    stored_of(&cases).finish(writes, "requests")
+}
+
+/// Where a case states another code or place, and names given twice.
+fn faults_of(cases: &[Case]) -> Vec<String> {
+    let mut faults = stored::repeated(cases.iter().map(|case| &case.name));
+    for case in cases {
+        let (stated, answered) = (case.stated, case.request.refusal());
+        if stated != answered {
+            let name = &case.name;
+            faults.push(format!(
+                "{name}: {stated:?} is stated, {answered:?} answered"
+            ));
+        }
+    }
+    faults
+}
+
+/// The stream ends inside a request, so the last line is `unread`.
+fn stored_of(cases: &[Case]) -> Stored {
+    let mut stored = Stored::of("paint-cases", "paintlines");
+    for case in cases {
+        let (code, place) = case.stated;
+        let told = format!("{code} {place}");
+        let request = &case.request;
+        stored.take(&case.name, &request.bytes(), &request.answer(), &told);
+    }
+    let name = "a request that breaks off inside the last word of its image";
+    let mut broken_off = cases[0].request.bytes();
+    broken_off.pop();
+    stored.take(name, &broken_off, "unread", "unread");
+    stored
+}

@@ -1,0 +1,142 @@
+//! Each refusal from 1 to 12, alone and beside others; no word that is lent changes.
+
+use super::bands::medley;
+use super::{band, subject_of, Cases};
+use crate::limits::broken_for;
+use crate::paintlines::{Request, Subject, CELLS, COLOURS, SCRATCH, STAMPS};
+use std::rc::Rc;
+
+pub fn add(cases: &mut Cases) {
+    of_the_check(cases);
+    beyond_the_sheet(cases);
+    one_buffer_short(cases);
+    several_short(cases);
+}
+
+/// Codes 1 to 10, also where the band leaves every sheet and nothing is lent: they
+/// win over 11 and 12.
+fn of_the_check(cases: &mut Cases) {
+    for code in 1..=10 {
+        let (words, place) = broken_for(&[code]);
+        let subject = Rc::new(Subject::checked(words));
+        for (name, rows, lent) in [
+            ("enough lent", 1, [40; 4]),
+            ("nothing lent", 1, [0; 4]),
+            ("a band beyond", u64::MAX, [1, 2, 3, 4]),
+        ] {
+            for (kind, coloured) in [("plain", false), ("coloured", true)] {
+                let request = Request {
+                    subject: Rc::clone(&subject),
+                    coloured,
+                    short: false,
+                    first: rows / 2,
+                    rows,
+                    lent,
+                };
+                let name = format!("refused for code {code}, {name}, {kind}");
+                cases.ask(name, request, (code, place));
+            }
+        }
+    }
+}
+
+/// "first band row + rows > height", the true sum, of a sheet of nine rows.
+fn beyond_the_sheet(cases: &mut Cases) {
+    const WORD: u64 = 1 << 32;
+    let subject = subject_of(&medley());
+    for (first, rows) in [
+        (9, 1),
+        (10, 0),
+        (0, 10),
+        (1, 9),
+        (WORD, 0),
+        (0, WORD),
+        (WORD - 1, 1),
+        (WORD - 1, 10),
+        (1 << 63, 1 << 63),
+        (u64::MAX, 1),
+        (u64::MAX, 10),
+        (1, u64::MAX),
+        (u64::MAX, u64::MAX),
+    ] {
+        // 11 wins over 12.
+        for (name, lent) in [("enough lent", [90, 90, 90, 40]), ("nothing lent", [0; 4])] {
+            let request = Request {
+                subject: Rc::clone(&subject),
+                coloured: first % 2 == 1,
+                short: false,
+                first,
+                rows,
+                lent,
+            };
+            let name = format!("{rows} rows from {first} of nine, {name}");
+            cases.ask(name, request, (11, 0));
+        }
+    }
+}
+
+/// Two rows of the medley: what must be lent.
+fn two_rows(coloured: bool) -> Request {
+    let request = band(subject_of(&medley()), coloured, (3, 2));
+    let lent = request.subject.room(2);
+    Request { lent, ..request }
+}
+
+fn one_buffer_short(cases: &mut Cases) {
+    for (kind, coloured) in [("plain", false), ("coloured", true)] {
+        for (buffer, name) in [
+            (CELLS, "cells"),
+            (COLOURS, "colours"),
+            (STAMPS, "stamps"),
+            (SCRATCH, "scratch"),
+        ] {
+            // A plain request lends neither colours nor stamps.
+            let is_lent = coloured || buffer == CELLS || buffer == SCRATCH;
+            let stated = if is_lent {
+                (12, buffer as u32 + 1)
+            } else {
+                (0, 0)
+            };
+            for short_by in [1, 2] {
+                let mut request = two_rows(coloured);
+                request.lent[buffer] -= short_by;
+                cases.ask(
+                    format!("{name} short by {short_by}, {kind}"),
+                    request,
+                    stated,
+                );
+            }
+            let mut request = two_rows(coloured);
+            request.lent[buffer] = 0;
+            cases.ask(format!("no {name}, {kind}"), request, stated);
+        }
+    }
+    // "scratch is wanted also for rows 0"
+    let request = Request {
+        lent: [0; 4],
+        ..band(subject_of(&medley()), true, (9, 0))
+    };
+    cases.ask("no rows and no scratch", request, (12, 4));
+}
+
+/// "the first short one"
+fn several_short(cases: &mut Cases) {
+    for (kind, coloured) in [("plain", false), ("coloured", true)] {
+        for (name, short, stated) in [
+            ("all", [1, 1, 1, 1], 1),
+            ("all but cells", [0, 1, 1, 1], if coloured { 2 } else { 4 }),
+            (
+                "stamps and scratch",
+                [0, 0, 1, 1],
+                if coloured { 3 } else { 4 },
+            ),
+            ("cells and scratch", [1, 0, 0, 1], 1),
+        ] {
+            let mut request = two_rows(coloured);
+            for (lent, short_by) in request.lent.iter_mut().zip(short) {
+                *lent -= short_by;
+            }
+            cases.ask(format!("short: {name}, {kind}"), request, (12, stated));
+        }
+    }
+}
