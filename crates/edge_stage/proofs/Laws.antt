@@ -37,7 +37,7 @@ use Rattle.runs.proofs.Within.{within-append}
 use Rattle.draw.specs.declared.Pen.{Pen}
 use Rattle.draw.specs.Drawn.{Drawing, piecesWrites, Drawn}
 use Rattle.draw.proofs.Laws.{untouched-pieces}
-use Rattle.picture.specs.Writes.{edgeWrites, edges, edgeRuns, runs}
+use Rattle.picture.specs.Writes.{edgeWrites, edges, runsOfEdge, runs}
 use Rattle.stage.specs.Staged.{Staged}
 use Rattle.stage.proofs.Laws.{unmarked-touches}
 use Rattle.edge_stage.specs.Laid.{laying, Laid, Layable}
@@ -65,16 +65,16 @@ one-more f k = each-numbers f 0 k 1 ∙ rw (zero-add k, append-nil (f k))
 module _ (image : List ℕ) (ts : Tables) (v : Window) (ranges : List ℕ) where
   -- the first so many edges
   abbrev pub LaidTo : ℕ → Drawing → Drawing → Type 0
-  LaidTo k a b = Laid v ranges (each (numbers 0 k) (edgeWrites image ts)) (each (numbers 0 k) (edgeRuns image ts)) a b
+  LaidTo k a b = Laid v ranges (each (numbers 0 k) (edgeWrites image ts)) (each (numbers 0 k) (runsOfEdge image ts)) a b
 
   pub laid-begins : (a : Drawing) → a .kept ≤ runRoom (a .scratch) → LaidTo 0 a a
   unfolding each numbers
   laid-begins a h = laid-none v ranges a h
 
-  pub laid-again : (k : ℕ) (a b c : Drawing) → LaidTo k a b → Laid v ranges (edgeWrites image ts k) (edgeRuns image ts k) b c → LaidTo (k + 1) a c
+  pub laid-again : (k : ℕ) (a b c : Drawing) → LaidTo k a b → Laid v ranges (edgeWrites image ts k) (runsOfEdge image ts k) b c → LaidTo (k + 1) a c
   laid-again k a b c p q =
-      rw (one-more (edgeWrites image ts) k, one-more (edgeRuns image ts) k)
-      (laid-then v ranges (each (numbers 0 k) (edgeWrites image ts)) (edgeWrites image ts k) (each (numbers 0 k) (edgeRuns image ts)) (edgeRuns image ts k) a b c p q)
+      rw (one-more (edgeWrites image ts) k, one-more (runsOfEdge image ts) k)
+      (laid-then v ranges (each (numbers 0 k) (edgeWrites image ts)) (edgeWrites image ts k) (each (numbers 0 k) (runsOfEdge image ts)) (runsOfEdge image ts k) a b c p q)
 
   -- and all of them
   pub laid-done : (k : ℕ) (a b : Drawing) → k ≤ ts .edges .count → ts .edges .count ≤ k → LaidTo k a b → Laid v ranges (edges image ts) (runs image ts) a b
@@ -104,8 +104,8 @@ module _ (image : List ℕ) (ts : Tables) (v : Window) (ranges : List ℕ) (k : 
       (pen : Pen) (e : Edge) (points : List ℕ) →
       Drawn pen ranges e (pieces e points) a b →
       pen .window ≡ v → pen .number ≡ k + 1 → points ≡ pointsOf image (ts .points) (e .path) → e ≡ edgeAt image (ts .edges) k →
-      Laid v ranges (edgeWrites image ts k) (edgeRuns image ts k) a b
-  unfolding edgeWrites edgeRuns edgeSpots
+      Laid v ranges (edgeWrites image ts k) (runsOfEdge image ts k) a b
+  unfolding edgeWrites runsOfEdge edgeSpots
   edge-drawn pen e points d w n p is =
       let drawn : One (pen .window) (pen .number) e points = record { inked = d .inked; waiting = d .runs } in
       let here : One v (pen .number) e points = subst (λ (x : Window). One x (pen .number) e points) w drawn in
@@ -121,7 +121,7 @@ pub edge-passed :
     marked ≡ not (eqb (getD marks (slotOf number k) 0) 0) →
     marked ≡ false →
     a .kept ≤ runRoom (a .scratch) →
-    Laid v ranges (edgeWrites image ts k) (edgeRuns image ts k) a a
+    Laid v ranges (edgeWrites image ts k) (runsOfEdge image ts k) a a
 unfolding thingTouches edgeTouches
 edge-passed image ts v marks ranges k number marked a staged there n m f room =
     let pen : Pen = record { lent = Cells; window = v; number = k + 1 } in
@@ -167,18 +167,18 @@ fewer-runs v w inside [] = omega arith
 fewer-runs v w inside (p ∷ rest) = omega (arith, fewer v w inside p, fewer-runs v w inside rest)
 
 module _ (image : List ℕ) (ts : Tables) (v : Window) (inside : (y : ℕ) → inWindow v y ≡ true → inWindow (sheetOf image) y ≡ true) where
-  edge-few : (k : ℕ) → length (runsWithin v (edgeRuns image ts k)) ≤ edgeRunsAt image ts k
-  unfolding edgeRuns path.edgeRuns
+  edge-few : (k : ℕ) → length (runsWithin v (runsOfEdge image ts k)) ≤ edgeRunsAt image ts k
+  unfolding runsOfEdge path.edgeRuns
   edge-few k =
       let e : Edge = edgeAt image (ts .edges) k in
       let ps = pieces e (edgePoints image ts k) in
       omega (arith, pieces-count v e (k + 1) ps, fewer-runs v (sheetOf image) inside ps)
 
-  edges-few : (l : List ℕ) → length (runsWithin v (each l (edgeRuns image ts))) ≤ total l (edgeRunsAt image ts)
+  edges-few : (l : List ℕ) → length (runsWithin v (each l (runsOfEdge image ts))) ≤ total l (edgeRunsAt image ts)
   unfolding each total runsWithin
   edges-few [] = omega arith
   edges-few (k ∷ rest) =
-      rw (within-append v (edgeRuns image ts k) (each rest (edgeRuns image ts)), length-append)
+      rw (within-append v (runsOfEdge image ts k) (each rest (runsOfEdge image ts)), length-append)
       (omega (arith, edge-few k, edges-few rest))
 
   -- The runs of all edges on rows of a window inside the sheet are no more than the run count.

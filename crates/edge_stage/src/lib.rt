@@ -3,7 +3,7 @@
 ghost use mathlib.Core.Path.{_≡_};
 ghost use Prim.Native.Nat.{_≤_, _<_};
 ghost use Rattle.layout.specs.Layout.{maxThings};
-ghost use Rattle.picture.specs.Writes.{edgeWrites, edges, edgeRuns, runs};
+ghost use Rattle.picture.specs.Writes.{edgeWrites, edges, runsOfEdge, runs};
 ghost use Rattle.stage.specs.Staged.{Staged};
 ghost use Rattle.edge_stage.specs.Laid.{laying, Laid, Layable};
 use draw::Pen;
@@ -28,7 +28,7 @@ fn lay_edge(
     k: usize,
 ) -> usize
     requires { ⌜ Staged (now image) ts v (now marks) (now ranges) × Layable lent v (now cells) (now colours) (now stamps) (now scratch) kept × (k < ts .edges .count) × (ts .edges .count ≤ maxThings) ⌝ }
-    ensures { λ r. ⌜ Laid v (now (ranges .entry)) (edgeWrites (now (image .entry)) ts k) (edgeRuns (now (image .entry)) ts k) (laying lent (now (cells .entry)) (now (colours .entry)) (now (stamps .entry)) (now (scratch .entry)) kept) (laying lent (now (cells .exit)) (now (colours .exit)) (now (stamps .exit)) (now (scratch .exit)) r) ⌝ }
+    ensures { λ r. ⌜ Laid v (now (ranges .entry)) (edgeWrites (now (image .entry)) ts k) (runsOfEdge (now (image .entry)) ts k) (laying lent (now (cells .entry)) (now (colours .entry)) (now (stamps .entry)) (now (scratch .entry)) kept) (laying lent (now (cells .exit)) (now (colours .exit)) (now (stamps .exit)) (now (scratch .exit)) r) ⌝ }
 {
     let kind = image::element_kind_number(ElementKind::Edge);
     if stage::is_marked(marks, kind, k) {

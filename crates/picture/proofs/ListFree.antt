@@ -30,7 +30,7 @@ use Rattle.things.specs.Things.{rangesOf, edgePoints, labelGlyphs}
 use Rattle.window.specs.Writes.{tinted, keepTint, colourTint, stampTint}
 use Rattle.runs.specs.Pieces.{pieceRuns}
 use Rattle.refusals.specs.Accepted.{Keeps}
-use Rattle.picture.specs.Writes.{borderTint, borderWrites, edgeWrites, edgeRuns, edgeLabelGlyphs, writesOfLabel, placedLabelWrites, nodeWrites, subgraphLabelWrites}
+use Rattle.picture.specs.Writes.{borderTint, borderWrites, edgeWrites, runsOfEdge, edgeLabelGlyphs, writesOfLabel, placedLabelWrites, nodeWrites, subgraphLabelWrites}
 use Rattle.picture.specs.Writes.{borders, edges, runs, placedLabels, nodes, subgraphLabels}
 use Rattle.picture.specs.Picture.{width, rowPainted, pictureRow}
 use Rattle.picture.proofs.Statements.{OnlyListing}
@@ -77,9 +77,9 @@ module _ (a b : List ℕ) (ts us : Tables) (s : Same a b ts us) where
       (λ k h. ap₂ (λ (e : Edge) (points : List ℕ). tinted (stampTint (e .colour) (k + 1)) (edgeSpots e points)) (s .edge k h) (points-same k h))
 
   runs-same : runs a ts ≡ runs b us
-  unfolding edgeRuns
+  unfolding runsOfEdge
   runs-same =
-      each-same (edgeRuns a ts) (edgeRuns b us) _ _ (s .edgeCount)
+      each-same (runsOfEdge a ts) (runsOfEdge b us) _ _ (s .edgeCount)
       (λ k h. ap₂ (λ (e : Edge) (points : List ℕ). each (pieces e points) (pieceRuns e (k + 1))) (s .edge k h) (points-same k h))
 
   label-same : (l : EdgeLabel) → edgeLabelGlyphs a ts l ≡ edgeLabelGlyphs b us l

@@ -19,12 +19,12 @@ use Rattle.frame.specs.Nodes.{lookOf, textUntil, lookSpots}
 use Rattle.window.specs.Writes.{inkOn, inkCells, rowAfter, inkRow}
 use Rattle.runs.specs.Runs.{covers, overColumn, inkColumn, flushCells, flushRow}
 use Rattle.runs.specs.Pieces.{pieceRuns}
-use Rattle.picture.specs.Writes.{edgeWrites, edgeRuns, nodeWrites}
+use Rattle.picture.specs.Writes.{edgeWrites, runsOfEdge, nodeWrites}
 use Rattle.picture.specs.Picture.{rowPainted, pictureCells}
 use Rattle.picture.specs.ProofTable.{ProofTable, ExampleA}
 
 pub table : ProofTable
-unfolding numbers each turns packArms packMarker pack read stroked marked paintedStroke paintedMarker isWideLead isContinuation emptyContinuation blankLead put strokeRow markerRow tablesOf pathOf edgeAt spanWords along headAt startHead endHead lineOf cornerBend pieceSpots directY crossRunY crossFirstY crossLastY trunkY ownStartY tailY bentY cornerY straightLineY straightY cornerRow crossingY legY pathPoint directOn cornerOn legOn legBetween legAt multiPieces piecesOf edgeSpots inkOn inkCells rowAfter inkRow covers overColumn inkColumn flushCells flushRow pieceRuns edgeWrites edgeRuns rowPainted
+unfolding numbers each turns packArms packMarker pack read stroked marked paintedStroke paintedMarker isWideLead isContinuation emptyContinuation blankLead put strokeRow markerRow tablesOf pathOf edgeAt spanWords along headAt startHead endHead lineOf cornerBend pieceSpots directY crossRunY crossFirstY crossLastY trunkY ownStartY tailY bentY cornerY straightLineY straightY cornerRow crossingY legY pathPoint directOn cornerOn legOn legBetween legAt multiPieces piecesOf edgeSpots inkOn inkCells rowAfter inkRow covers overColumn inkColumn flushCells flushRow pieceRuns edgeWrites runsOfEdge rowPainted
 table = record { cell = proof-table-cell; row = proof-table-row; p7 = refl; p8 = refl; p9 = refl; p10 = refl }
 
 pub example : ExampleA

@@ -35,8 +35,8 @@ edgeWrites image ts k =
     tinted (stampTint (edgeAt image (ts .edges) k .colour) (k + 1)) (edgeSpots (edgeAt image (ts .edges) k) (edgePoints image ts k))
 
 -- "Runs wait": those of edge k
-unfoldable pub edgeRuns : List ℕ → Tables → ℕ → List waiting.Run
-edgeRuns image ts k =
+unfoldable pub runsOfEdge : List ℕ → Tables → ℕ → List waiting.Run
+runsOfEdge image ts k =
     each (pieces (edgeAt image (ts .edges) k) (edgePoints image ts k)) (pieceRuns (edgeAt image (ts .edges) k) (k + 1))
 
 -- "Placed labels, label colour": the glyphs are those of its edge's label
@@ -77,7 +77,7 @@ abbrev pub edges : List ℕ → Tables → List Write
 edges image ts = each (numbers 0 (ts .edges .count)) (edgeWrites image ts)
 
 abbrev pub runs : List ℕ → Tables → List waiting.Run
-runs image ts = each (numbers 0 (ts .edges .count)) (edgeRuns image ts)
+runs image ts = each (numbers 0 (ts .edges .count)) (runsOfEdge image ts)
 
 abbrev pub placedLabels : List ℕ → Tables → List Write
 placedLabels image ts = each (numbers 0 (ts .labels .count)) (placedLabelWrites image ts)
