@@ -1,6 +1,6 @@
 -- Arithmetic on packed words comes to the rule on one cell.
 use native.Mathlib.Omega.{arith}
-use Prim.Native.Nat.{ℕ, zero, suc, _/_, _%_, _≤_, _<_, max}
+use Prim.Native.Nat.{ℕ, zero, suc, _+_, _/_, _%_, _≤_, _<_, max}
 use mathlib.Core.Bool.{false}
 use mathlib.Core.List.{List}
 use mathlib.Core.Path.{_≡_, refl, sym, ap, _∙_}
@@ -14,7 +14,7 @@ use Rattle.cell.specs.declared.Weight.{Weight}
 use Rattle.cell.specs.declared.Arms.{Arms}
 use Rattle.cell.specs.declared.Parts.the-variants.{Stroke}
 use Rattle.cell.specs.OneCell.{weightNumber, weightOf, packArms, pack, readArms, read, heavier, heavierArms, stroked, paintedStroke}
-use Rattle.cell.proofs.Laws.{weight-small, heavier-first, heavier-second}
+use Rattle.cell.proofs.Laws.{weight-small, heavier-first, heavier-second, read-stroke}
 use Rattle.canvas.specs.Row.{isWideLead, isContinuation, emptyContinuation, blankLead, put, strokeRow}
 use Rattle.canvas.specs.Packed.{armNumber, mergedWord, FourArms}
 use Rattle.canvas.proofs.Laws.{no-lead-here, no-continuation-here}
@@ -69,6 +69,11 @@ put-whole row ranges x new lead next =
     (λ e. rw e (sym (set-getD row x 0) ∙ ap (set row x) (eqb-true _ _ e)))
     (λ e. rw (e, a, b))
 
+-- a word with the tag of a stroke reads as one
+read-tag : (word : ℕ) → word / 0x40000000 ≡ 2 → read word ≡ Stroke (readArms word)
+unfolding read
+read-tag word tag = rw tag
+
 module _ (arms : Arms) (word : ℕ) (packed : word ≡ pack (Stroke arms)) where
   -- the fields of a packed stroke
   fields :
@@ -107,9 +112,17 @@ module _ (arms : Arms) (word : ℕ) (packed : word ≡ pack (Stroke arms)) where
         heavier-number (weightOf (old / 512 % 8)) (arms .right),
       )
 
-  read-tag : (old : ℕ) → old / 0x40000000 ≡ 2 → read old ≡ Stroke (readArms old)
-  unfolding read
-  read-tag old tag = rw tag
+  -- the arms of a packed stroke are read back
+  word-arms : readArms word ≡ arms
+  unfolding pack packArms
+  word-arms =
+      let u = weight-small (arms .up) in
+      let d = weight-small (arms .down) in
+      let l = weight-small (arms .left) in
+      let r = weight-small (arms .right) in
+      let tag : word / 0x40000000 ≡ 2 = omega arith in
+      let read-as : Stroke (readArms word) ≡ Stroke arms = sym (read-tag word tag) ∙ read-stroke arms word packed in
+      cc
 
   module _ (row ranges : List ℕ) (x : ℕ) where
     -- a stroke on an empty cell is the word
@@ -133,3 +146,21 @@ module _ (arms : Arms) (word : ℕ) (packed : word ≡ pack (Stroke arms)) where
         let lead : isWideLead (getD row x 0) ranges ≡ false = rw r in
         let next : isContinuation (getD row x 0) ≡ false = rw r in
         sym (put-whole row ranges x (paintedStroke (getD row x 0) arms) lead next ∙ rw (r, ← merged-arms old, ← e))
+
+-- a tag before packed arms packs the stroke, and its arms are read back
+pub packed-word :
+    (arms : Arms) (low : ℕ) →
+    low ≡ packArms arms →
+    (0x80000000 + low ≡ pack (Stroke arms)) × (readArms (0x80000000 + low) ≡ arms)
+unfolding pack
+packed-word arms low e =
+    let p : 0x80000000 + low ≡ pack (Stroke arms) = rw e in
+    (p, word-arms arms _ p)
+
+-- equal arms make an equal stroke
+pub same-stroke :
+    (row ranges : List ℕ) (x : ℕ) (one other : Arms) (last : List ℕ) →
+    one ≡ other →
+    last ≡ strokeRow row ranges x one →
+    last ≡ strokeRow row ranges x other
+same-stroke row ranges x one other last e f = rw e at f

@@ -1,15 +1,16 @@
 -- A line as writes: row after row of a window, or all in one row, plane by plane.
 use native.Mathlib.Omega.{arith}
 use Prim.Native.Nat.{ℕ, zero, suc, _+_, _-_, _≤_, min, max}
-use mathlib.Core.Bool.{Bool}
+use mathlib.Core.Bool.{Bool, false}
 use mathlib.Core.List.{List, map}
 use mathlib.Core.Path.{_≡_, refl, sym, ap, _∙_}
 use lib.ListN.{set}
-use Rattle.ground.specs.Each.{numbers, between}
+use Rattle.ground.specs.Each.{numbers}
 use Rattle.ground.specs.Turns.{turns}
 use Rattle.ground.proofs.Each.{cond-holds, numbers-done}
 use Rattle.cell.specs.declared.Arms.{Arms}
 use Rattle.rows.specs.declared.Window.{Window}
+use Rattle.rows.specs.Window.{inWindow}
 use Rattle.rows.specs.Spots.{Ink, stroke, Spot, at}
 use Rattle.flow.specs.declared.Head.{Head}
 use Rattle.flow.specs.declared.Head.the-variants as head
@@ -22,12 +23,13 @@ use Rattle.window.specs.declared.Tint.{Tint}
 use Rattle.window.specs.Writes.{Write, write, tinted, inkOn, columnsOf, fill, paintOn, inkCells, inkColours, inkStamps}
 use Rattle.window.specs.Window.{onRow, windowAfter, inkWindow, planeOf, canvasOf}
 use Rattle.window.specs.Computed.{onRows}
-use Rattle.window.proofs.Rows.{cells-keep, colours-keep, stamps-keep}
+use Rattle.window.proofs.Rows.{on-row-out, cells-keep, colours-keep, stamps-keep}
 use Rattle.window.proofs.Theorems.{ink-none}
 use Rattle.window.proofs.Parts.{Keeps}
 use Rattle.window.proofs.OneRow.{on-row-cong, inOrder, AllOn, one-row}
 use Rattle.lines.specs.Lines.{downSpots, acrossSpots}
 use Rattle.lines.specs.Computed.{headHere, headDir, inkAt, inkAlong}
+use Rattle.lines.proofs.Clipped.{rows-missed}
 
 -- A write at each of some numbers, in one plane.
 
@@ -119,16 +121,10 @@ module _ (ranges : List ℕ) (tint : Tint) (arms : Arms) (dashed : Bool) (l : Li
     Inked spots cells' colours' stamps' =
         canvasOf lent cells' colours' stamps' ≡ inkWindow v ranges (tinted tint spots) (canvasOf lent cells colours stamps)
 
-    -- an end after the other has nothing between
-    nothing : (spot : ℕ → Spot) → high ≤ before → Inked (map spot (between (l .from) (l .to))) cells colours stamps
-    nothing spot h =
+    -- ends next to each other have nothing between
+    pub horizontal-none : high - before ≤ 1 → Inked (acrossSpots dashed l arms) cells colours stamps
+    horizontal-none h =
         rw (← bottom, ← top, numbers-done (before + 1) high (omega arith)) (sym (ink-none v ranges (canvasOf lent cells colours stamps)))
-
-    pub vertical-none : high ≤ before → Inked (downSpots dashed l arms) cells colours stamps
-    vertical-none h = nothing (λ y. at (l .lane) y (lineInk dashed l arms y)) h
-
-    pub horizontal-none : high ≤ before → Inked (acrossSpots dashed l arms) cells colours stamps
-    horizontal-none h = nothing (λ x. at x (l .lane) (lineInk dashed l arms x)) h
 
     -- from what is done in each plane
     module _ (cells' colours' stamps' : List ℕ) where
@@ -175,3 +171,19 @@ module _ (ranges : List ℕ) (tint : Tint) (arms : Arms) (dashed : Bool) (l : Li
           ∙ on-row-cong v y _ (paintOn (tint .colour) low n) (planeOf lent colours) (paint-along (tint .colour) low n) ∙ sym (t .0))
           (plane-along (inkStamps ranges) tint spot (λ x. paintOn (tint .stamp) x 1) (λ x row. in-stamps x y x row) v y (stamps-keep ranges) (λ x. refl) low n (planeOf lent stamps)
           ∙ on-row-cong v y _ (paintOn (tint .stamp) low n) (planeOf lent stamps) (paint-along (tint .stamp) low n) ∙ sym (t .1)))
+
+    -- a line that has no row in the window
+    pub vertical-missed : min high (v .first + v .rows) ≤ max (before + 1) (v .first) → Inked (downSpots dashed l arms) cells colours stamps
+    vertical-missed h =
+        let low = before + 1 in
+        vertical-done cells colours stamps
+        (rows-missed v low high _ cells h)
+        (rows-missed v low high _ (planeOf lent colours) h, rows-missed v low high _ (planeOf lent stamps) h)
+
+    -- and one whose row it has not
+    pub horizontal-missed : inWindow v (l .lane) ≡ false → Inked (acrossSpots dashed l arms) cells colours stamps
+    horizontal-missed out =
+        let y = l .lane in
+        horizontal-done cells colours stamps
+        (sym (on-row-out v y _ cells out))
+        (sym (on-row-out v y _ (planeOf lent colours) out), sym (on-row-out v y _ (planeOf lent stamps) out))

@@ -1,3 +1,4 @@
 -- Laws of lines.
 pub mod Laws
+pub mod Clipped
 pub mod Inked

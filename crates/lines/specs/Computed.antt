@@ -1,8 +1,8 @@
 -- For the proofs alone: how the code finds what a line has at a place of it, and goes along a row.
 use Prim.Native.Nat.{ℕ, _-_}
-use mathlib.Core.Bool.{Bool, false, cond}
+use mathlib.Core.Bool.{Bool, true, false, cond}
 use mathlib.Core.List.{List}
-use lib.Dec.{eqb}
+use lib.Dec.{eqb, leb, ltb}
 use Rattle.ground.specs.Turns.{turns}
 use Rattle.cell.specs.declared.Arms.{Arms}
 use Rattle.cell.specs.declared.Dir.{Dir}
@@ -22,6 +22,11 @@ headHere (head.At n dir) k = eqb n k
 unfoldable pub headDir : Head → Dir
 headDir head.None = Up
 headDir (head.At n dir) = dir
+
+-- whether no arrow stands from low to below high
+unfoldable pub freeOf : Head → ℕ → ℕ → Bool
+freeOf head.None low high = true
+freeOf (head.At n dir) low high = cond (ltb n low) true (leb high n)
 
 -- what a line with these arrows has at a place: where both want one cell the first stands
 unfoldable pub inkAt : Arms → Bool → Head → Head → ℕ → Ink

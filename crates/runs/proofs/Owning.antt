@@ -1,11 +1,12 @@
 -- Laws of a row's owners, and of its colours.
 use native.Mathlib.Omega.{arith}
 use Prim.Native.Nat.{ℕ, suc, _+_, _-_, _≤_, _<_, min}
+use mathlib.Core.Bool.{cond}
 use mathlib.Core.List.{List, []}
 use mathlib.Core.Path.{_≡_, refl, sym, ap, _∙_}
 use lib.Dec.{ltb}
 use lib.ListN.{length, getD, set, replicate, length-set}
-use lib.Seq.{getD-set-same, getD-set-other}
+use lib.Seq.{set-getD, getD-set-same, getD-set-other}
 use borrow.Author.Tests.{lt-ltb, le-ltb}
 use Rattle.ground.specs.Turns.{turns}
 use Rattle.ground.proofs.Each.{cond-holds}
@@ -19,16 +20,25 @@ use Rattle.runs.proofs.Threads.{Walking, walk-again}
 
 -- One column.
 
-module _ (number colour x : ℕ) (numbers colours : List ℕ) where
-  pub claimed :
-      getD numbers x 0 < number →
-      owners (set numbers x number) (set colours x colour) ≡ claimColumn number colour x (owners numbers colours)
-  unfolding claimColumn
-  claimed h = rw (lt-ltb _ _ h)
+-- a word chosen by the test of a claim: the run's, or the one that is there
 
-  pub not-claimed : number ≤ getD numbers x 0 → owners numbers colours ≡ claimColumn number colour x (owners numbers colours)
-  unfolding claimColumn
-  not-claimed h = rw (le-ltb _ _ h)
+pub chosen-run : (old number run kept word : ℕ) → old < number → word ≡ run → word ≡ cond (ltb old number) run kept
+chosen-run old number run kept word h e = rw (lt-ltb _ _ h) e
+
+pub chosen-kept : (old number run kept word : ℕ) → number ≤ old → word ≡ kept → word ≡ cond (ltb old number) run kept
+chosen-kept old number run kept word h e = rw (le-ltb _ _ h) e
+
+-- both words so chosen are the column claimed
+pub claimed :
+    (number colour x : ℕ) (numbers colours : List ℕ) (one other : ℕ) →
+    one ≡ cond (ltb (getD numbers x 0) number) number (getD numbers x 0) →
+    other ≡ cond (ltb (getD numbers x 0) number) colour (getD colours x 0) →
+    owners (set numbers x one) (set colours x other) ≡ claimColumn number colour x (owners numbers colours)
+unfolding claimColumn
+claimed number colour x numbers colours one other e f =
+    by-order (getD numbers x 0) number
+    (λ p. rw (e, f, lt-ltb _ _ p))
+    (λ p. rw (e, f, le-ltb _ _ p, set-getD numbers x 0, set-getD colours x 0))
 
 module _ (owner : Owner) (stamp x : ℕ) (row : List ℕ) where
   pub colour-taken : stamp < owner .number → set row x (owner .colour) ≡ colourColumn owner stamp x row

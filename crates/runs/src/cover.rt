@@ -7,7 +7,7 @@ ghost use Rattle.ground.specs.Turns.{turns};
 ghost use Rattle.runs.specs.Runs.{inkColumn, flushCells};
 ghost use Rattle.runs.specs.Kept.{runSize, runAt, keptRuns, lastOn, Linked, onColumns, raiseColumn, Covered, Blank};
 use crate::Columns;
-use canvas::row;
+use canvas::packed;
 use cell::Arms;
 use cell::Weight;
 
@@ -82,7 +82,7 @@ fn ink_column(row: &mut [u32], ranges: &[u32], weight: u8, x: usize)
 {
     if weight != 0 {
         let arms = Arms::horizontal(Weight::from_bits(weight as u32));
-        row::stroke(row, ranges, x, arms);
+        packed::stroke(row, ranges, x, packed::stroke_word(arms));
     }
 }
 

@@ -9,15 +9,16 @@ ghost use Rattle.runs.specs.Runs.{colourColumn, flushColours};
 ghost use Rattle.runs.specs.Kept.{runSize, runAt, keptRuns, lastOn, Linked, onColumns, Blank, owners, ownerIn, claimColumn, Owned};
 use crate::Columns;
 
-// A column becomes the run's where the run's number is the higher one.
+// A column becomes the run's where the run's number is the higher one. Both words are written in any case: a loop of choices takes several columns at once,
+// one of branches a column at a time.
 fn claim_column(numbers: &mut [u32], colours: &mut [u32], x: usize, number: u32, colour: u32)
     requires { ⌜ (x < length (now numbers)) × (x < length (now colours)) ⌝ }
     ensures { λ _. ⌜ owners (now (numbers .exit)) (now (colours .exit)) ≡ claimColumn number colour x (owners (now (numbers .entry)) (now (colours .entry))) ⌝ }
 {
-    if numbers[x] < number {
-        numbers[x] = number;
-        colours[x] = colour;
-    }
+    let old = numbers[x];
+    let kept = colours[x];
+    numbers[x] = if old < number { number } else { old };
+    colours[x] = if old < number { colour } else { kept };
 }
 
 // The columns from a to just before e, claimed by a run.

@@ -5,6 +5,7 @@ ghost use lib.ListN.{length};
 ghost use Rattle.rows.specs.Spots.{stroke, marker, glyph};
 ghost use Rattle.window.specs.Writes.{inkOn};
 ghost use Rattle.window.specs.Window.{onPart};
+use canvas::packed;
 use canvas::row;
 use cell::Arms;
 use cell::Dir;
@@ -22,7 +23,8 @@ pub fn stroke_part(
     ensures { λ _. ⌜ now (cells .exit) ≡ onPart start width (inkOn (now (ranges .entry)) x (stroke arms)) (now (cells .entry)) ⌝ }
 {
     let end = start + width;
-    row::stroke(&mut cells[start..end], ranges, x, arms);
+    let word = packed::stroke_word(arms);
+    packed::stroke_any(&mut cells[start..end], ranges, x, word);
 }
 
 pub fn marker_part(

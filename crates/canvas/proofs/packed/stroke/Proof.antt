@@ -1,16 +1,13 @@
--- `stroke` of packed words comes to a stroke at the column: on an empty cell, on a stroke, and by the general way on any other.
+-- `stroke` of packed words comes to a stroke at the column: on an empty cell, and by `stroke_any` on any other.
 use borrow.Author.Needs.{needs}
-use mathlib.Core.Path.{refl, sym}
+use mathlib.Core.Path.{sym}
 use Rattle.canvas.proofs.Theorems.{stroke-off}
-use Rattle.canvas.proofs.PackedStroke.{four-arms, on-empty, on-stroke}
+use Rattle.canvas.proofs.PackedStroke.{on-empty}
 use Rattle.canvas.proofs.packed.stroke.Statement.{statement}
 use Rattle.canvas.proofs.packed.stroke.Tie as tie
 
 returns : tie.Need-returns
 returns c = on-empty _ _ (search needs) _ _ _ (c .if2 .taken)
-
-returns-2 : tie.Need-returns-2
-returns-2 c = on-stroke _ _ (search needs) _ _ _ _ _ refl (c .before .if3 .taken) (c .merged .ensures)
 
 pub stroke-spec : {M : Type 1} → statement M
 stroke-spec =
@@ -20,14 +17,9 @@ stroke-spec =
     (λ c. search needs)
     (λ c. search needs)
     (λ c. search needs)
-    (λ c κs. search (four-arms, needs))
-    (λ c. search needs)
-    (λ c. search needs)
     (λ c κs. search needs)
     (λ c. search needs)
     returns
-    (λ c. search needs)
-    returns-2
     (λ c. search needs)
     (λ c. search needs)
     (λ c. sym (stroke-off _ _ _ _ (c .if1 .left))))

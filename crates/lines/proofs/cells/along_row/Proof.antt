@@ -1,36 +1,38 @@
--- `along_row` puts a line into a row, in the columns that it has. The loop's invariant is the work left.
+-- `along_row` puts a line into a row, in the columns that it has.
 use borrow.Author.Needs.{needs}
-use Prim.Native.Nat.{_-_}
-use mathlib.Core.Path.{_≡_, refl}
-use lib.ListN.{length}
-use Rattle.lines.specs.Computed.{inkAlong}
-use Rattle.lines.proofs.Laws.{along-again, along-done}
+use mathlib.Core.Path.{sym, _∙_}
+use Rattle.lines.proofs.Clipped.{along-strokes, along-arrows}
 use Rattle.lines.proofs.cells.along_row.Statement.{statement}
 use Rattle.lines.proofs.cells.along_row.Tie as tie
 
-abbrev Inv-loop : tie.InvT-loop
-Inv-loop row₀ ranges low high arms dashed winner other word end x₀ row x =
-    (length row ≡ length row₀)
-    × (inkAlong ranges arms dashed winner other x high row ≡ inkAlong ranges arms dashed winner other low high row₀)
+returns : tie.Need-returns
+returns c =
+    let done = c .before .before in
+    let two = done .before .before in
+    let one = two .before .before in
+    let clipped = one .before .before in
+    along-strokes _ _ _ _ _ _ _ _ _ _ _ (clipped .min .ensures) (clipped .before .stroke-word .ensures .1)
+    (sym (one .before .free-of .ensures) ∙ one .if1 .taken)
+    (sym (two .before .free-of2 .ensures) ∙ two .if2 .taken)
+    (done .strokes-along .ensures)
 
-abbrev μ-loop : tie.MeasureT-loop
-μ-loop row₀ ranges low high arms dashed winner other word end x₀ row x = end - x
-
-loop-again : tie.Need-loop-again Inv-loop μ-loop
-loop-again c = (search needs, search (along-again, needs))
+returns-2 : tie.Need-returns-2
+returns-2 c =
+    let done = c .before .before in
+    let clipped = done .before .before .before .before in
+    along-arrows _ _ _ _ _ _ _ _ _ _ _ (clipped .min .ensures) (clipped .before .stroke-word .ensures .1) (done .arrows-along .ensures)
 
 pub along-row-spec : {M : Type 1} → statement M
 along-row-spec =
     tie.close
     (tie.spec
-    Inv-loop
-    μ-loop
     (λ c κs. search needs)
     (λ c κs. search needs)
-    (λ c. (refl, refl))
+    (λ c κs. search needs)
+    (λ c κs. search needs)
     (λ c κs. search needs)
     (λ c. search needs)
+    returns
+    (λ c κs. search needs)
     (λ c. search needs)
-    loop-again
-    (λ c. search needs)
-    (λ c. search (along-done, needs)))
+    returns-2)

@@ -1,44 +1,41 @@
--- `down` puts a line into a column, in the rows that the window has. The loop's invariant is the work left.
+-- `down` puts a line into a column, in the rows that the window has.
 use borrow.Author.Needs.{needs}
-use Prim.Native.Nat.{_≤_, _-_}
-use mathlib.Core.Path.{_≡_, refl}
-use lib.ListN.{length}
-use Rattle.window.specs.Writes.{inkOn}
-use Rattle.window.specs.Computed.{onRows}
-use Rattle.window.proofs.Down.{window, rows-again, rows-done}
-use Rattle.lines.specs.Computed.{inkAt}
+use mathlib.Core.Path.{sym, _∙_}
+use Rattle.lines.proofs.Clipped.{down-strokes, down-arrows}
 use Rattle.lines.proofs.cells.down.Statement.{statement}
 use Rattle.lines.proofs.cells.down.Tie as tie
 
-abbrev Inv-loop : tie.InvT-loop
-Inv-loop cells₀ ranges x low high arms dashed winner other width first rows word end y₀ cells y =
-    (length cells ≡ length cells₀)
-    × (first ≤ y)
-    × (onRows (window width first rows) y high (λ k. inkOn ranges x (inkAt arms dashed winner other k)) cells
-    ≡ onRows (window width first rows) y₀ high (λ k. inkOn ranges x (inkAt arms dashed winner other k)) cells₀)
+returns : tie.Need-returns
+returns c =
+    let done = c .before .before in
+    let two = done .before .before in
+    let one = two .before .before in
+    let clipped = one .before .before in
+    down-strokes _ _ _ _ _ (clipped .max .ensures) (clipped .before .min .ensures) _ _ _ _ _ _ _ _ _ (clipped .before .before .stroke-word .ensures .1)
+    (sym (one .before .free-of .ensures) ∙ one .if1 .taken)
+    (sym (two .before .free-of2 .ensures) ∙ two .if2 .taken)
+    (done .strokes-down .ensures)
 
-abbrev μ-loop : tie.MeasureT-loop
-μ-loop cells₀ ranges x low high arms dashed winner other width first rows word end y₀ cells y = end - y
-
-loop-again : tie.Need-loop-again Inv-loop μ-loop
-loop-again c = (search needs, search needs, search (rows-again, needs))
+returns-2 : tie.Need-returns-2
+returns-2 c =
+    let done = c .before .before in
+    let clipped = done .before .before .before .before in
+    down-arrows _ _ _ _ _ (clipped .max .ensures) (clipped .before .min .ensures) _ _ _ _ _ _ _ _ _ (clipped .before .before .stroke-word .ensures .1)
+    (done .arrows-down .ensures)
 
 pub down-spec : {M : Type 1} → statement M
 down-spec =
     tie.close
     (tie.spec
-    Inv-loop
-    μ-loop
     (λ c κs. search needs)
     (λ c. search needs)
     (λ c κs. search needs)
     (λ c κs. search needs)
-    (λ c. (refl, search needs, refl))
-    (λ c. search needs)
     (λ c κs. search needs)
     (λ c κs. search needs)
+    (λ c κs. search needs)
     (λ c. search needs)
+    returns
+    (λ c κs. search needs)
     (λ c. search needs)
-    loop-again
-    (λ c. search needs)
-    (λ c. search (rows-done, needs)))
+    returns-2)
