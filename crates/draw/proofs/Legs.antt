@@ -4,13 +4,12 @@ use mathlib.Core.List.{List}
 use mathlib.Core.Path.{_≡_}
 use Rattle.ground.specs.Each.{numbers, each}
 use Rattle.ground.proofs.Each.{each-step, each-done, numbers-whole}
-use Rattle.image.specs.declared.Edge.{Edge}
 use Rattle.flow.specs.declared.Piece.{Piece}
 use Rattle.draw.specs.declared.Pen.{Pen}
 use Rattle.draw.specs.Drawn.{Drawing, drawing, Drawn, Drawable}
 use Rattle.draw.proofs.Laws.{drawn-then, drawn-none, drawable-after}
 
-module _ (pen : Pen) (ranges : List ℕ) (e : Edge) (f : ℕ → List Piece) (n : ℕ) (start : Drawing) where
+module _ (pen : Pen) (ranges : List ℕ) (f : ℕ → List Piece) (n : ℕ) (start : Drawing) where
   -- the pieces of the legs from k on
   abbrev legsFrom : ℕ → List Piece
   legsFrom k = each (numbers k (n - k)) f
@@ -20,8 +19,8 @@ module _ (pen : Pen) (ranges : List ℕ) (e : Edge) (f : ℕ → List Piece) (n 
     pub able : Drawable pen cells colours stamps scratch kept
     pub all :
         (end : Drawing) →
-        Drawn pen ranges e (legsFrom k) (drawing pen cells colours stamps scratch kept) end →
-        Drawn pen ranges e (each (numbers 0 n) f) start end
+        Drawn pen ranges (legsFrom k) (drawing pen cells colours stamps scratch kept) end →
+        Drawn pen ranges (each (numbers 0 n) f) start end
 
   module _ (cells colours stamps scratch : List ℕ) (kept : ℕ) where
     pub draw-begins : drawing pen cells colours stamps scratch kept ≡ start → Drawable pen cells colours stamps scratch kept → DrawnTo 0 cells colours stamps scratch kept
@@ -30,18 +29,18 @@ module _ (pen : Pen) (ranges : List ℕ) (e : Edge) (f : ℕ → List Piece) (n 
     module _ (k : ℕ) (m : DrawnTo k cells colours stamps scratch kept) where
       pub draw-turns :
           (cells' colours' stamps' scratch' : List ℕ) (kept' : ℕ) (ps : List Piece) → k < n → ps ≡ f k →
-          Drawn pen ranges e ps (drawing pen cells colours stamps scratch kept) (drawing pen cells' colours' stamps' scratch' kept') →
+          Drawn pen ranges ps (drawing pen cells colours stamps scratch kept) (drawing pen cells' colours' stamps' scratch' kept') →
           DrawnTo (k + 1) cells' colours' stamps' scratch' kept'
       draw-turns cells' colours' stamps' scratch' kept' ps h p d = record {
-        able = drawable-after pen ranges e ps cells colours stamps scratch kept cells' colours' stamps' scratch' kept' d (m .able);
+        able = drawable-after pen ranges ps cells colours stamps scratch kept cells' colours' stamps' scratch' kept' d (m .able);
         all =
             λ end rest.
             m .all end
             (rw (each-step f k n h)
-            (drawn-then pen ranges e (f k) (legsFrom (k + 1)) (drawing pen cells colours stamps scratch kept) (drawing pen cells' colours' stamps' scratch' kept') end (rw p at d) rest));
+            (drawn-then pen ranges (f k) (legsFrom (k + 1)) (drawing pen cells colours stamps scratch kept) (drawing pen cells' colours' stamps' scratch' kept') end (rw p at d) rest));
       }
 
-      pub draw-ends : n ≤ k → Drawn pen ranges e (each (numbers 0 n) f) start (drawing pen cells colours stamps scratch kept)
+      pub draw-ends : n ≤ k → Drawn pen ranges (each (numbers 0 n) f) start (drawing pen cells colours stamps scratch kept)
       draw-ends h =
           m .all (drawing pen cells colours stamps scratch kept)
-          (rw (each-done f k n h) (drawn-none pen ranges e (drawing pen cells colours stamps scratch kept) (m .able .room)))
+          (rw (each-done f k n h) (drawn-none pen ranges (drawing pen cells colours stamps scratch kept) (m .able .room)))

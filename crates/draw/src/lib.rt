@@ -1,23 +1,23 @@
-// A piece of an edge, drawn in a window of rows: its strokes and arrows at once, its run kept in the scratch.
+// A piece of an edge, drawn in a window of rows: a line, one stroke or arrow, or a run, which is kept in the scratch. Each kind has a function of its own, small
+// enough for the compiler to put it where the piece is made, so that the piece need not lie in memory.
 ghost use mathlib.Core.Path.{_≡_};
 ghost use mathlib.Core.List.{[], _∷_};
-ghost use Prim.Native.Nat.{_+_, _≤_, _<_};
-ghost use Rattle.flow.specs.declared.Piece.the-variants as piece;
+ghost use Prim.Native.Nat.{_+_, _≤_};
 ghost use Rattle.window.specs.Writes.{stampTint};
-ghost use Rattle.runs.specs.Pieces.{pieceRuns};
+ghost use Rattle.window.specs.Window.{canvasOf, Ready};
 ghost use Rattle.runs.specs.Kept.{runRoom, Kept, runsWithin};
-ghost use Rattle.draw.specs.Drawn.{drawing, Drawn, Drawable, SmallRun};
+ghost use Rattle.draw.specs.Drawn.{piecesRuns, Inked, LinePiece, CellPiece, RunPiece};
 use cell::Arms;
 use cell::MarkerKind;
+use cell::Weight;
 use flow::Piece;
-use image::Edge;
 use rows::Window;
 use runs::Run;
 use window::Lent;
 use window::Paint;
 use window::Tint;
 
-// With what an edge is drawn, and where.
+// With what an edge is drawn, and where: no more of an edge than its ink depends on.
 pub struct Pen {
     // which planes are lent
     pub lent: Lent,
@@ -25,70 +25,67 @@ pub struct Pen {
     pub window: Window,
     // the edge's number: its index and 1
     pub number: u32,
+    // the edge's colour
+    pub colour: u32,
+    // the weight of its strokes
+    pub weight: Weight,
+    // whether its arrows are dashed: "Reversed .. makes arrows dashed"
+    pub dashed: bool,
 }
 
 // "Strokes and markers of an edge write its colour and stamp its index + 1"
-fn tint_of(e: Edge, number: u32) -> Tint
-    ensures { λ r. ⌜ r ≡ stampTint (e .colour) number ⌝ }
+fn tint_of(pen: Pen) -> Tint
+    ensures { λ r. ⌜ r ≡ stampTint (pen .colour) (pen .number) ⌝ }
 {
     Tint {
-        colour: Paint::Set(e.colour),
-        stamp: Paint::Set(number),
+        colour: Paint::Set(pen.colour),
+        stamp: Paint::Set(pen.number),
     }
 }
 
 // "Runs wait": a run on a row of the window is kept. Answers how many are kept now.
-fn keep_run(
-    scratch: &mut [u32],
-    pen: Pen,
-    e: Edge,
-    kept: usize,
-    row: usize,
-    first: usize,
-    last: usize,
-) -> usize
-    requires { ⌜ (kept ≤ runRoom (now scratch)) × (first < 0x100000000) × (last < 0x100000000) × (pen .window .first + pen .window .rows ≤ 0xFFFFFFFF) ⌝ }
-    ensures { λ r. ⌜ Kept (now (scratch .entry)) kept (runsWithin (pen .window) (pieceRuns e (pen .number) (piece.Run row first last))) (now (scratch .exit)) r ⌝ }
+pub fn keep_piece(scratch: &mut [u32], pen: Pen, kept: usize, piece: Piece) -> usize
+    requires { ⌜ RunPiece piece × (kept ≤ runRoom (now scratch)) × (pen .window .first + pen .window .rows ≤ 0xFFFFFFFF) ⌝ }
+    ensures { λ r. ⌜ Kept (now (scratch .entry)) kept (runsWithin (pen .window) (piecesRuns pen (piece ∷ []))) (now (scratch .exit)) r ⌝ }
 {
+    let Piece::Run { row, first, last } = piece else {
+        return kept;
+    };
     let window = pen.window;
     if window.has(row) {
-        let weight = e.weight;
+        let weight = pen.weight;
         let run = Run {
             row: row as u32,
             first: first as u32,
             last: last as u32,
             weight: weight.number(),
             number: pen.number,
-            colour: e.colour,
+            colour: pen.colour,
         };
         return runs::keep_run(scratch, kept, run);
     }
     kept
 }
 
-// One piece. Answers how many runs are kept now.
-pub fn draw_piece(
+// A line.
+pub fn draw_line(
     cells: &mut [u32],
     colours: &mut [u32],
     stamps: &mut [u32],
-    scratch: &mut [u32],
     ranges: &[u32],
     pen: Pen,
-    e: Edge,
-    kept: usize,
     piece: Piece,
-) -> usize
-    requires { ⌜ Drawable pen (now cells) (now colours) (now stamps) (now scratch) kept × SmallRun piece ⌝ }
-    ensures { λ r. ⌜ Drawn pen (now (ranges .entry)) e (piece ∷ []) (drawing pen (now (cells .entry)) (now (colours .entry)) (now (stamps .entry)) (now (scratch .entry)) kept) (drawing pen (now (cells .exit)) (now (colours .exit)) (now (stamps .exit)) (now (scratch .exit)) r) ⌝ }
+)
+    requires { ⌜ LinePiece piece × Ready (pen .lent) (pen .window) (now cells) (now colours) (now stamps) ⌝ }
+    ensures { λ _. ⌜ Inked pen (now (ranges .entry)) (piece ∷ []) (canvasOf (pen .lent) (now (cells .entry)) (now (colours .entry)) (now (stamps .entry))) (canvasOf (pen .lent) (now (cells .exit)) (now (colours .exit)) (now (stamps .exit))) ⌝ }
 {
     let lent = pen.lent;
     let v = pen.window;
-    let weight = e.weight;
-    let dashed = e.reversed;
-    let tint = tint_of(e, pen.number);
+    let weight = pen.weight;
+    let dashed = pen.dashed;
     match piece {
-        Piece::Nothing => kept,
         Piece::Vertical(line) => {
+            let tint = tint_of(pen);
             let arms = Arms::vertical(weight);
             lines::vertical(
                 cells,
@@ -102,9 +99,9 @@ pub fn draw_piece(
                 dashed,
                 tint,
             );
-            kept
         }
         Piece::Horizontal(line) => {
+            let tint = tint_of(pen);
             let arms = Arms::horizontal(weight);
             lines::horizontal(
                 cells,
@@ -118,14 +115,33 @@ pub fn draw_piece(
                 dashed,
                 tint,
             );
-            kept
         }
-        Piece::Run { row, first, last } => keep_run(scratch, pen, e, kept, row, first, last),
+        _ => {}
+    }
+}
+
+// One stroke, or one arrow.
+pub fn draw_cell(
+    cells: &mut [u32],
+    colours: &mut [u32],
+    stamps: &mut [u32],
+    ranges: &[u32],
+    pen: Pen,
+    piece: Piece,
+)
+    requires { ⌜ CellPiece piece × Ready (pen .lent) (pen .window) (now cells) (now colours) (now stamps) ⌝ }
+    ensures { λ _. ⌜ Inked pen (now (ranges .entry)) (piece ∷ []) (canvasOf (pen .lent) (now (cells .entry)) (now (colours .entry)) (now (stamps .entry))) (canvasOf (pen .lent) (now (cells .exit)) (now (colours .exit)) (now (stamps .exit))) ⌝ }
+{
+    let lent = pen.lent;
+    let v = pen.window;
+    let dashed = pen.dashed;
+    match piece {
         Piece::Stroke { x, y, arms } => {
+            let tint = tint_of(pen);
             window::stroke_at(cells, colours, stamps, lent, ranges, v, x, y, arms, tint);
-            kept
         }
         Piece::Mark { x, y, dir } => {
+            let tint = tint_of(pen);
             window::marker_at(
                 cells,
                 colours,
@@ -140,7 +156,7 @@ pub fn draw_piece(
                 dashed,
                 tint,
             );
-            kept
         }
+        _ => {}
     }
 }

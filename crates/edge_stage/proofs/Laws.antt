@@ -7,8 +7,8 @@ use mathlib.Core.List.{List, [], _∷_, _++_, append-nil}
 use mathlib.Core.Path.{_≡_, refl, sym, ap, _∙_, subst}
 use lib.Dec.{eqb}
 use lib.ListN.{length, getD, length-append}
-use Rattle.ground.specs.Each.{numbers, each}
-use Rattle.ground.proofs.Each.{each-numbers, by-bool}
+use Rattle.ground.specs.Each.{numbers, each, some}
+use Rattle.ground.proofs.Each.{each-numbers, each-same, by-bool, or-left, or-right, or-neither}
 use Rattle.layout.specs.declared.Tables.{Tables}
 use Rattle.image.specs.declared.Edge.{Edge}
 use Rattle.image.specs.declared.ElementKind.the-variants as kind
@@ -19,14 +19,14 @@ use Rattle.rows.specs.declared.Window.{Window}
 use Rattle.rows.specs.Window.{inWindow}
 use Rattle.flow.specs.declared.Piece.{Piece}
 use Rattle.flow.specs.declared.Piece.the-variants as piece
-use Rattle.flow.specs.Pieces.{pieceRunsIn, runsIn}
+use Rattle.flow.specs.Pieces.{pieceSpots, pieceTouches, pieceRunsIn, runsIn}
 use Rattle.path.specs.Pieces.{pieces, edgeSpots}
 use Rattle.path.specs.Touched.{edgeTouches}
 use Rattle.path.specs.Touched as path
 use Rattle.things.specs.Things.{thingTouches, edgePoints, edgeRunsAt, total, runCount, sheetOf}
 use Rattle.window.specs.declared.Lent.{Lent}
 use Rattle.window.specs.declared.Lent.the-variants.{Cells}
-use Rattle.window.specs.Writes.{Write}
+use Rattle.window.specs.Writes.{Write, tinted, stampTint}
 use Rattle.window.specs.Window.{inkWindow}
 use Rattle.window.proofs.Theorems.{ink-none, ink-append, ready-after}
 use Rattle.runs.specs.declared.Run.{Run}
@@ -35,8 +35,8 @@ use Rattle.runs.specs.Kept.{runRoom, runsWithin}
 use Rattle.runs.proofs.Keeping.{kept-none, kept-then}
 use Rattle.runs.proofs.Within.{within-append}
 use Rattle.draw.specs.declared.Pen.{Pen}
-use Rattle.draw.specs.Drawn.{Drawing, piecesWrites, Drawn}
-use Rattle.draw.proofs.Laws.{untouched-pieces}
+use Rattle.draw.specs.Drawn.{edgeOf, penOf, piecesWrites, piecesRuns, Drawing, Drawn}
+use Rattle.draw.proofs.Laws.{untouched-pieces, same-spots, same-runs}
 use Rattle.picture.specs.Writes.{edgeWrites, edges, runsOfEdge, runs}
 use Rattle.stage.specs.Staged.{Staged}
 use Rattle.stage.proofs.Laws.{unmarked-touches}
@@ -94,24 +94,42 @@ layable-after lent v ranges ws rs cells colours stamps scratch kept cells' colou
 
 -- One edge: drawn, or passed over.
 
+-- the ink and the runs of pieces, by the pen of their edge, are the edge's
+pen-writes : (lent : Lent) (v : Window) (number : ℕ) (e : Edge) (ps : List Piece) → piecesWrites (penOf lent v number e) ps ≡ tinted (stampTint (e .colour) number) (each ps (pieceSpots e))
+pen-writes lent v number e ps = ap (tinted (stampTint (e .colour) number)) (each-same (pieceSpots (edgeOf (penOf lent v number e))) (pieceSpots e) (same-spots lent v number e) ps)
+
+pen-runs : (lent : Lent) (v : Window) (number : ℕ) (e : Edge) (ps : List Piece) → piecesRuns (penOf lent v number e) ps ≡ each ps (pieceRuns e number)
+pen-runs lent v number e ps = each-same (pieceRuns (edgeOf (penOf lent v number e)) number) (pieceRuns e number) (same-runs lent v number e) ps
+
+-- and they touch the same rows
+pen-touches :
+    (lent : Lent) (v : Window) (number : ℕ) (e : Edge) (ps : List Piece) (y : ℕ) →
+    some ps (λ p. pieceTouches e p y) ≡ false → some ps (λ p. pieceTouches (edgeOf (penOf lent v number e)) p y) ≡ false
+unfolding some pieceTouches
+pen-touches lent v number e [] y h = refl
+pen-touches lent v number e (p ∷ rest) y h =
+    let here : pieceTouches (edgeOf (penOf lent v number e)) p y ≡ false = rw (same-spots lent v number e p) (or-left (pieceTouches e p y) _ h) in
+    or-neither here (pen-touches lent v number e rest y (or-right (pieceTouches e p y) _ h))
+
 module _ (image : List ℕ) (ts : Tables) (v : Window) (ranges : List ℕ) (k : ℕ) (a b : Drawing) where
-  -- an edge with this number and these points, drawn in a window
-  abbrev One : Window → ℕ → Edge → List ℕ → Type 0
-  One w number e points =
-      Laid w ranges (piecesWrites e number (pieces e points)) (each (pieces e points) (pieceRuns e number)) a b
+  -- an edge with these points, drawn
+  abbrev One : Edge → List ℕ → Type 0
+  One e points =
+      Laid v ranges (tinted (stampTint (e .colour) (k + 1)) (each (pieces e points) (pieceSpots e))) (each (pieces e points) (pieceRuns e (k + 1))) a b
 
   pub edge-drawn :
-      (pen : Pen) (e : Edge) (points : List ℕ) →
-      Drawn pen ranges e (pieces e points) a b →
-      pen .window ≡ v → pen .number ≡ k + 1 → points ≡ pointsOf image (ts .points) (e .path) → e ≡ edgeAt image (ts .edges) k →
+      (lent : Lent) (pen : Pen) (e : Edge) (points : List ℕ) →
+      Drawn pen ranges (pieces e points) a b →
+      pen ≡ penOf lent v (k + 1) e → points ≡ pointsOf image (ts .points) (e .path) → e ≡ edgeAt image (ts .edges) k →
       Laid v ranges (edgeWrites image ts k) (runsOfEdge image ts k) a b
   unfolding edgeWrites runsOfEdge edgeSpots
-  edge-drawn pen e points d w n p is =
-      let drawn : One (pen .window) (pen .number) e points = record { inked = d .inked; waiting = d .runs } in
-      let here : One v (pen .number) e points = subst (λ (x : Window). One x (pen .number) e points) w drawn in
-      let numbered : One v (k + 1) e points = subst (λ (x : ℕ). One v x e points) n here in
-      let along : One v (k + 1) e (pointsOf image (ts .points) (e .path)) = subst (λ (x : List ℕ). One v (k + 1) e x) p numbered in
-      subst (λ (x : Edge). One v (k + 1) x (pointsOf image (ts .points) (x .path))) is along
+  edge-drawn lent pen e points d n p is =
+      let drawn : Drawn (penOf lent v (k + 1) e) ranges (pieces e points) a b = subst (λ (x : Pen). Drawn x ranges (pieces e points) a b) n d in
+      let inked = drawn .inked in
+      let waiting = drawn .runs in
+      let here : One e points = record { inked = rw (pen-writes lent v (k + 1) e (pieces e points)) at inked; waiting = rw (pen-runs lent v (k + 1) e (pieces e points)) at waiting } in
+      let along : One e (pointsOf image (ts .points) (e .path)) = subst (λ (x : List ℕ). One e x) p here in
+      subst (λ (x : Edge). One x (pointsOf image (ts .points) (x .path))) is along
 
 pub edge-passed :
     (image : List ℕ) (ts : Tables) (v : Window) (marks ranges : List ℕ) (k number : ℕ) (marked : Bool) (a : Drawing) →
@@ -124,11 +142,11 @@ pub edge-passed :
     Laid v ranges (edgeWrites image ts k) (runsOfEdge image ts k) a a
 unfolding thingTouches edgeTouches
 edge-passed image ts v marks ranges k number marked a staged there n m f room =
-    let pen : Pen = record { lent = Cells; window = v; number = k + 1 } in
     let e : Edge = edgeAt image (ts .edges) k in
+    let pen : Pen = penOf Cells v (k + 1) e in
     let points = pointsOf image (ts .points) (e .path) in
     let none = unmarked-touches image ts v marks ranges kind.Edge number k marked staged there n m f in
-    edge-drawn image ts v ranges k a a pen e points (untouched-pieces pen ranges e (pieces e points) a none room) refl refl refl refl
+    edge-drawn image ts v ranges k a a Cells pen e points (untouched-pieces pen ranges (pieces e points) a (λ y p q. pen-touches Cells v (k + 1) e (pieces e points) y (none y p q)) room) refl refl refl
 
 -- The runs on rows of a window are counted.
 

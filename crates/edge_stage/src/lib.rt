@@ -36,10 +36,14 @@ fn lay_edge(
         let e = image::edge_at(image, table, k);
         let path = e.path;
         let points = image::points_of(image, ts.points, path);
+        let weight = e.weight;
         let pen = Pen {
             lent: lent,
             window: v,
             number: (k + 1) as u32,
+            colour: e.colour,
+            weight: weight,
+            dashed: e.reversed,
         };
         return path_draw::draw_edge(
             cells,

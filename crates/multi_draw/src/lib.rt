@@ -1,30 +1,16 @@
 // The legs of a MultiSegment, drawn in a window of rows. Each function answers how many runs are kept now.
-ghost use mathlib.Core.Bool.{false};
 ghost use mathlib.Core.Path.{_≡_};
 ghost use Rattle.flow.specs.Bounds.{SmallLeg};
 ghost use Rattle.path.specs.Pieces.{legOn, multiPieces};
-ghost use Rattle.draw.specs.Drawn.{drawing, Drawn, Drawable, NoRow};
+ghost use Rattle.draw.specs.Drawn.{drawing, Drawn, Drawable};
 use draw::Pen;
 use flow::Leg;
 use image::Edge;
 use image::FlowAxis;
 use orthogonal::points;
 use path::legs;
-use path::reach;
-use rows::Rows;
 
-// Whether a leg of a MultiSegment touches a row of the window.
-fn leg_meets(pen: Pen, e: Edge, offset: u32, leg: Leg) -> bool
-    requires { ⌜ SmallLeg leg ⌝ }
-    ensures { λ r. ⌜ (r ≡ false → NoRow (pen .window) e (legOn (e .«flow_axis») e offset leg)) ⌝ }
-{
-    let window = pen.window;
-    let reach = reach::leg_reach(touch::no_reach(), window, e, offset, leg);
-    let rows = reach.rows;
-    if let Rows::None = rows { false } else { true }
-}
-
-// A leg of a MultiSegment: one that touches no row of the window makes nothing there, so that none of its pieces is made.
+// A leg of a MultiSegment: none of the pieces of one that lies far from the window is made.
 fn draw_leg(
     cells: &mut [u32],
     colours: &mut [u32],
@@ -37,10 +23,11 @@ fn draw_leg(
     offset: u32,
     leg: Leg,
 ) -> usize
-    requires { ⌜ Drawable pen (now cells) (now colours) (now stamps) (now scratch) kept × SmallLeg leg ⌝ }
-    ensures { λ r. ⌜ Drawn pen (now (ranges .entry)) e (legOn (e .«flow_axis») e offset leg) (drawing pen (now (cells .entry)) (now (colours .entry)) (now (stamps .entry)) (now (scratch .entry)) kept) (drawing pen (now (cells .exit)) (now (colours .exit)) (now (stamps .exit)) (now (scratch .exit)) r) ⌝ }
+    requires { ⌜ Drawable pen (now cells) (now colours) (now stamps) (now scratch) kept × SmallLeg leg × (pen .weight ≡ e .weight) ⌝ }
+    ensures { λ r. ⌜ Drawn pen (now (ranges .entry)) (legOn (e .«flow_axis») e offset leg) (drawing pen (now (cells .entry)) (now (colours .entry)) (now (stamps .entry)) (now (scratch .entry)) kept) (drawing pen (now (cells .exit)) (now (colours .exit)) (now (stamps .exit)) (now (scratch .exit)) r) ⌝ }
 {
-    if leg_meets(pen, e, offset, leg) {
+    let window = pen.window;
+    if leg_near::is_near(window, leg, offset) {
         let axis = e.flow_axis;
         return match axis {
             FlowAxis::Y => y_draw::draw_leg(
@@ -55,18 +42,10 @@ fn draw_leg(
                 offset,
                 leg,
             ),
-            FlowAxis::X => x_draw::draw_leg(
-                cells,
-                colours,
-                stamps,
-                scratch,
-                ranges,
-                pen,
-                e,
-                kept,
-                offset,
-                leg,
-            ),
+            FlowAxis::X => {
+                x_draw::draw_leg(cells, colours, stamps, ranges, pen, e, offset, leg);
+                kept
+            }
         };
     }
     kept
@@ -85,8 +64,8 @@ pub fn draw_multi(
     offset: u32,
     points: &[u32],
 ) -> usize
-    requires { ⌜ Drawable pen (now cells) (now colours) (now stamps) (now scratch) kept ⌝ }
-    ensures { λ r. ⌜ Drawn pen (now (ranges .entry)) e (multiPieces e offset (now (points .entry))) (drawing pen (now (cells .entry)) (now (colours .entry)) (now (stamps .entry)) (now (scratch .entry)) kept) (drawing pen (now (cells .exit)) (now (colours .exit)) (now (stamps .exit)) (now (scratch .exit)) r) ⌝ }
+    requires { ⌜ Drawable pen (now cells) (now colours) (now stamps) (now scratch) kept × (pen .weight ≡ e .weight) ⌝ }
+    ensures { λ r. ⌜ Drawn pen (now (ranges .entry)) (multiPieces e offset (now (points .entry))) (drawing pen (now (cells .entry)) (now (colours .entry)) (now (stamps .entry)) (now (scratch .entry)) kept) (drawing pen (now (cells .exit)) (now (colours .exit)) (now (stamps .exit)) (now (scratch .exit)) r) ⌝ }
 {
     let count = image::point_count(points);
     let mut now_kept = kept;

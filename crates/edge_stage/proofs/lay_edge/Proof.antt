@@ -8,7 +8,7 @@ use Rattle.edge_stage.proofs.lay_edge.Tie as tie
 returns : tie.Need-returns
 returns c =
     let call = c .before .before .before .before .before .before .before .before in
-    edge-drawn _ _ _ _ _ _ _ _ _ _ (call .draw-edge .ensures) refl refl (search needs) (search needs)
+    edge-drawn _ _ _ _ _ _ _ _ _ _ _ (call .draw-edge .ensures) refl (search needs) (search needs)
 
 returns-2 : tie.Need-returns-2
 returns-2 c = search (edge-passed, needs)

@@ -23,10 +23,13 @@ abbrev μ-loop : tie.MeasureT-loop
 loop-holds : tie.Need-loop-holds Inv-loop μ-loop
 loop-holds c =
     let start = c .before .before .before .before .before .before .before .before in
-    (refl, refl, refl, refl, multi-begins _ _ _ _ _ _ _ _ _ _ _ _ (c .source-point .ensures) refl (start .pre))
+    (refl, refl, refl, refl, multi-begins _ _ _ _ _ _ _ _ _ _ _ _ (c .source-point .ensures) refl (start .pre .0))
 
 draw-leg-requires : tie.Need-draw-leg-requires Inv-loop μ-loop
-draw-leg-requires c κs = let leg = c .before .before .before .before in (leg .before .before .before .loop .inv .4 .drawn .able, leg .leg-between .ensures .1)
+draw-leg-requires c κs =
+    let leg = c .before .before .before .before in
+    let weighed = leg .before .before .before .before .before .before .before .before .before .before .before .before .pre .1 in
+    (leg .before .before .before .loop .inv .4 .drawn .able, leg .leg-between .ensures .1, weighed)
 
 loop-again : tie.Need-loop-again Inv-loop μ-loop
 loop-again c =
@@ -40,7 +43,10 @@ loop-again c =
     )
 
 draw-leg-requires-2 : tie.Need-draw-leg-requires-2 Inv-loop μ-loop
-draw-leg-requires-2 c κs = let leg = c .before .before .before .before in (leg .before .before .before .loop .inv .4 .drawn .able, leg .leg-between2 .ensures .1)
+draw-leg-requires-2 c κs =
+    let leg = c .before .before .before .before in
+    let weighed = leg .before .before .before .before .before .before .before .before .before .before .before .before .pre .1 in
+    (leg .before .before .before .loop .inv .4 .drawn .able, leg .leg-between2 .ensures .1, weighed)
 
 returns : tie.Need-returns Inv-loop μ-loop
 returns c =

@@ -1,39 +1,39 @@
 -- `draw_leg` draws a leg of a MultiSegment.
 use borrow.Author.Needs.{needs}
-use Rattle.draw_pieces.proofs.Laws.{corner-small}
+use Rattle.draw.proofs.Laws.{corner-small}
 use Rattle.x_draw.proofs.Laws.{straight-leg, below-leg, bent-leg}
 use Rattle.x_draw.proofs.draw_leg.Statement.{statement}
 use Rattle.x_draw.proofs.draw_leg.Tie as tie
 
 returns : tie.Need-returns
-returns c = let call = c .before .before .before .before .before .before .before .before in straight-leg _ _ _ _ _ _ _ (call .before .before .before .before .before .if1 .taken) (call .draw-straight .ensures)
+returns c =
+    let drawn = c .before .before .before .before .before .before in
+    straight-leg _ _ _ _ _ _ _ (drawn .before .before .before .before .if1 .taken) (drawn .draw-straight .ensures)
 
 returns-2 : tie.Need-returns-2
 returns-2 c =
-    let corner = c .before .before in
-    below-leg _ _ _ _ _ _ (corner .before .if1 .left) (corner .corner-column .ensures .0) _ (c .enum-told .given .1) (corner .before .before .before .before .before .before .before .before .pre .0 .room)
+    let found = c .before .before in
+    below-leg _ _ _ _ _ _ (found .before .if1 .left) (found .corner-column .ensures .0) _ (c .enum-told .given .1)
 
 leg-bend-requires : tie.Need-leg-bend-requires
 leg-bend-requires c κs =
-    let corner = c .before .before .before .before in
-    (corner .before .before .before .before .before .before .before .before .pre .1, corner-small _ _ (c .before .before .corner .given .1) (corner .corner-column .ensures .1))
+    let found = c .before .before .before .before in
+    (found .before .before .before .before .before .before .before .pre .1, corner-small _ _ (c .before .before .corner .given .1) (found .corner-column .ensures .1))
 
 returns-3 : tie.Need-returns-3
 returns-3 c =
-    let call = c .before .before .before .before .before .before .before .before in
-    let bend = call .before .before .before .before .before in
-    let corner = bend .before .before .before .before .before in
-    bent-leg _ _ _ _ _ _ (corner .before .if1 .left) (corner .corner-column .ensures .0) _ _ _ _ _ (bend .before .before .before .corner .given .1) (bend .before .sign .ensures) (bend .leg-bend .ensures .0) (call .draw-bent .ensures)
+    let drawn = c .before .before .before .before .before .before in
+    let found = drawn .before .before .before .before .before .before .before .before .before in
+    bent-leg _ _ _ _ _ _ (found .before .if1 .left) (found .corner-column .ensures .0) _ _ _ _ _ _ (drawn .before .before .before .before .before .before .before .corner .given .1) (found .before .before .before .before .before .before .before .pre .2) (drawn .before .before .before .before .before .sign .ensures) (drawn .before .before .before .before .leg-bend .ensures .0) (drawn .draw-bent .ensures)
 
 pub draw-leg-spec : {M : Type 1} → statement M
 draw-leg-spec =
     tie.close
     (tie.spec
     (λ c κs. search needs)
-    (λ c. c .before .before .before .before .before .before .before .cells .given)
-    (λ c. c .before .before .before .before .before .colours .given)
-    (λ c. c .before .before .before .stamps .given)
-    (λ c. c .before .scratch .given)
+    (λ c. c .before .before .before .before .before .cells .given)
+    (λ c. c .before .before .before .colours .given)
+    (λ c. c .before .stamps .given)
     returns
     (λ c κs. search needs)
     (λ c. search needs)
@@ -42,8 +42,7 @@ draw-leg-spec =
     (λ c κs. search needs)
     leg-bend-requires
     (λ c κs. search needs)
-    (λ c. c .before .before .before .before .before .before .before .cells2 .given)
-    (λ c. c .before .before .before .before .before .colours2 .given)
-    (λ c. c .before .before .before .stamps2 .given)
-    (λ c. c .before .scratch2 .given)
+    (λ c. c .before .before .before .before .before .cells2 .given)
+    (λ c. c .before .before .before .colours2 .given)
+    (λ c. c .before .stamps2 .given)
     returns-3)

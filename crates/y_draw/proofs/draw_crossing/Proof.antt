@@ -1,36 +1,42 @@
--- `draw_crossing` draws a crossing, and the line that leads on from it.
+-- `draw_crossing` draws a crossing where the window has its row.
 use borrow.Author.Needs.{needs}
-use Rattle.y_draw.proofs.Laws.{small-run, small-first, small-last, crossing-drawn}
+use Rattle.y_draw.proofs.Laws.{crossing-elsewhere}
 use Rattle.y_draw.proofs.draw_crossing.Statement.{statement}
 use Rattle.y_draw.proofs.draw_crossing.Tie as tie
 
-draw-four-requires : tie.Need-draw-four-requires
-draw-four-requires c κs =
-    let made = c .before .before .before .before in
-    let given = made .before .before .before .before .before .before .before .before .pre in (
-      given .0,
-      small-run _ _ _ _ (made .before .before .cross-run .ensures) (given .1) (given .2),
-      small-first _ _ _ _ _ _ _ (made .before .cross-first .ensures),
-      small-last _ _ _ _ _ _ (made .cross-last .ensures),
-      given .3,
-    )
+has-requires : tie.Need-has-requires
+has-requires c κs = search needs
+
+draw-turns-requires : tie.Need-draw-turns-requires
+draw-turns-requires c κs = search needs
+
+same-length : tie.Need-same-length
+same-length c = search needs
+
+same-length-2 : tie.Need-same-length-2
+same-length-2 c = search needs
+
+same-length-3 : tie.Need-same-length-3
+same-length-3 c = search needs
+
+same-length-4 : tie.Need-same-length-4
+same-length-4 c = search needs
 
 returns : tie.Need-returns
-returns c =
-    let call = c .before .before .before .before .before .before .before .before in
-    let made = call .before .before .before .before .before in
-    crossing-drawn _ _ _ _ _ _ _ _ _ _ _ _ _ _ (made .before .before .cross-run .ensures) (made .before .cross-first .ensures) (made .cross-last .ensures) (call .draw-four .ensures)
+returns c = search needs
+
+returns-2 : tie.Need-returns-2
+returns-2 c = search (crossing-elsewhere, needs)
 
 pub draw-crossing-spec : {M : Type 1} → statement M
 draw-crossing-spec =
     tie.close
     (tie.spec
-    (λ c κs. search needs)
-    (λ c κs. search needs)
-    (λ c κs. search needs)
-    draw-four-requires
-    (λ c. c .before .before .before .before .before .before .before .cells .given)
-    (λ c. c .before .before .before .before .before .colours .given)
-    (λ c. c .before .before .before .stamps .given)
-    (λ c. c .before .scratch .given)
-    returns)
+    has-requires
+    draw-turns-requires
+    same-length
+    same-length-2
+    same-length-3
+    same-length-4
+    returns
+    returns-2)

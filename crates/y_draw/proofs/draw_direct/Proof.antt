@@ -1,23 +1,28 @@
--- `draw_direct` draws a Direct edge.
+-- `draw_direct` draws the one line of a Direct edge or a Spline.
 use borrow.Author.Needs.{needs}
-use Rattle.y_draw.proofs.Laws.{small-direct, direct-drawn}
+use Rattle.y_draw.proofs.Laws.{direct-line, direct-drawn}
 use Rattle.y_draw.proofs.draw_direct.Statement.{statement}
 use Rattle.y_draw.proofs.draw_direct.Tie as tie
 
-draw-piece-requires : tie.Need-draw-piece-requires
-draw-piece-requires c κs = let made = c .before .before .before .before in (made .before .before .before .before .before .before .pre, small-direct _ _ (made .direct .ensures))
+direct-requires : tie.Need-direct-requires
+direct-requires c κs = search needs
+
+draw-line-requires : tie.Need-draw-line-requires
+draw-line-requires c κs = (search (direct-line, needs), search needs)
+
+same-length : tie.Need-same-length
+same-length c = search needs
+
+same-length-2 : tie.Need-same-length-2
+same-length-2 c = search needs
+
+same-length-3 : tie.Need-same-length-3
+same-length-3 c = search needs
 
 returns : tie.Need-returns
-returns c = let call = c .before .before .before .before .before .before .before .before in direct-drawn _ _ _ _ _ _ (call .before .before .before .before .before .direct .ensures) (call .draw-piece .ensures)
+returns c = search (direct-drawn, needs)
 
 pub draw-direct-spec : {M : Type 1} → statement M
 draw-direct-spec =
     tie.close
-    (tie.spec
-    (λ c κs. search needs)
-    draw-piece-requires
-    (λ c. c .before .before .before .before .before .before .before .cells .given)
-    (λ c. c .before .before .before .before .before .colours .given)
-    (λ c. c .before .before .before .stamps .given)
-    (λ c. c .before .scratch .given)
-    returns)
+    (tie.spec direct-requires draw-line-requires same-length same-length-2 same-length-3 returns)

@@ -1,29 +1,48 @@
--- `draw_straight` draws a straight leg.
+-- `draw_straight` draws a leg along the flow.
 use borrow.Author.Needs.{needs}
-use Rattle.y_draw.proofs.Laws.{small-start, small-straight, straight-drawn}
+use Rattle.draw.proofs.Laws.{ready-then}
+use Rattle.y_draw.proofs.Laws.{start-cell, straight-line, straight-drawn}
 use Rattle.y_draw.proofs.draw_straight.Statement.{statement}
 use Rattle.y_draw.proofs.draw_straight.Tie as tie
 
-draw-two-requires : tie.Need-draw-two-requires
-draw-two-requires c κs =
-    let made = c .before .before .before .before in
-    (made .before .before .before .before .before .before .before .before .pre .0, small-start _ _ _ _ _ (made .before .own-start .ensures), small-straight _ _ _ (made .straight-line .ensures))
+own-start-requires : tie.Need-own-start-requires
+own-start-requires c κs = search needs
+
+draw-cell-requires : tie.Need-draw-cell-requires
+draw-cell-requires c κs = (search (start-cell, needs), search needs)
+
+straight-line-requires : tie.Need-straight-line-requires
+straight-line-requires c κs = c .before .before .before .before .before .before .before .before .before .before .before .before .before .before .before .before .pre .1
+
+draw-line-requires : tie.Need-draw-line-requires
+draw-line-requires c κs = (search (straight-line, needs), ready-then _ _ _ _ _ _ _ _ _ (c .before .before .before .before .before .before .before .before .before .before .draw-cell .ensures) (c .before .before .before .before .before .before .before .before .before .before .before .before .before .before .before .before .before .before .before .before .pre .0))
+
+same-length : tie.Need-same-length
+same-length c = search needs
+
+same-length-2 : tie.Need-same-length-2
+same-length-2 c = search needs
+
+same-length-3 : tie.Need-same-length-3
+same-length-3 c = search needs
 
 returns : tie.Need-returns
 returns c =
-    let call = c .before .before .before .before .before .before .before .before in
-    let made = call .before .before .before .before .before in
-    straight-drawn _ _ _ _ _ _ _ _ (made .before .own-start .ensures) (made .straight-line .ensures) (call .draw-two .ensures)
+    let line = c .before .before .before .before .before .before in
+    let made = line .before .before .before .before in
+    let cell = made .before .before .before .before .before .before .before in
+    let own = cell .before .before .before .before in
+    straight-drawn _ _ _ _ _ _ _ _ _ (own .own-start .ensures) (made .straight-line .ensures) (cell .draw-cell .ensures) (line .draw-line .ensures)
 
 pub draw-straight-spec : {M : Type 1} → statement M
 draw-straight-spec =
     tie.close
     (tie.spec
-    (λ c κs. search needs)
-    (λ c κs. search needs)
-    draw-two-requires
-    (λ c. c .before .before .before .before .before .before .before .cells .given)
-    (λ c. c .before .before .before .before .before .colours .given)
-    (λ c. c .before .before .before .stamps .given)
-    (λ c. c .before .scratch .given)
+    own-start-requires
+    draw-cell-requires
+    straight-line-requires
+    draw-line-requires
+    same-length
+    same-length-2
+    same-length-3
     returns)

@@ -1,2 +1,0 @@
--- Laws of drawing a flow.
-pub mod Laws

@@ -1,0 +1,2 @@
+-- What is shown of legs that lie off a window.
+pub mod Laws
