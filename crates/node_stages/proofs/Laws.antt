@@ -1,32 +1,51 @@
--- A placed label and a node painted, and passed over.
-use Prim.Native.Nat.{ℕ, _<_}
+-- A placed label and a node painted, and passed over; and that all glyphs of a placed label stand on its row.
+use Prim.Native.Nat.{ℕ, _+_, _≤_, _<_}
 use mathlib.Core.Bool.{Bool, true, false, not}
 use mathlib.Core.List.{List}
-use mathlib.Core.Path.{_≡_, sym}
+use mathlib.Core.Path.{_≡_, refl, sym, _∙_}
 use lib.Dec.{eqb}
 use lib.ListN.{getD}
+use Rattle.ground.specs.Each.{some}
+use Rattle.ground.proofs.Each.{by-bool}
 use Rattle.layout.specs.declared.Tables.{Tables}
 use Rattle.image.specs.declared.Header.{Header}
 use Rattle.image.specs.declared.Node.{Node}
 use Rattle.image.specs.declared.Span.{Span}
 use Rattle.image.specs.declared.Edge.{Edge}
+use Rattle.image.specs.declared.EdgeLabel.{EdgeLabel}
 use Rattle.image.specs.declared.EdgeLabel.the-variants as label
+use Rattle.image.specs.declared.LabelPolicy.{LabelPolicy}
 use Rattle.image.specs.declared.PlacedLabel.{PlacedLabel}
 use Rattle.image.specs.declared.ElementKind.the-variants as kind
 use Rattle.image.specs.Records.{headerOf, nodeAt, edgeAt, placedLabelAt, elementKindNumber}
 use Rattle.image.specs.Spans.{spanWords}
 use Rattle.elements.specs.Slots.{slotOf}
 use Rattle.rows.specs.declared.Window.{Window}
+use Rattle.rows.specs.Spots.{touches}
+use Rattle.rows.specs.Window.{inWindow}
+use Rattle.rows.proofs.Windows.{clash}
 use Rattle.frame.specs.Frames.{text}
 use Rattle.frame.specs.Nodes.{nodeSpots}
 use Rattle.frame.specs.PlacedLabels.{quoted, paintsUnder, placedLabelSpots}
+use Rattle.frame.proofs.Spots.{text-off}
 use Rattle.things.specs.Things.{rangesOf, labelGlyphs, thingTouches}
 use Rattle.window.specs.Writes.{Write, Canvas, tinted, colourTint}
 use Rattle.window.specs.Window.{inkWindow}
+use Rattle.window.proofs.Rows.{within}
 use Rattle.window.proofs.Theorems.{ink-none, untouched}
-use Rattle.picture.specs.Writes.{writesOfLabel, placedLabelWrites, nodeWrites}
+use Rattle.picture.specs.Writes.{edgeLabelGlyphs, writesOfLabel, placedLabelWrites, nodeWrites}
 use Rattle.stage.specs.Staged.{Staged}
 use Rattle.stage.proofs.Laws.{unmarked-touches}
+
+-- all glyphs of a placed label stand on its row
+label-off :
+    (ranges : List ℕ) (p : PlacedLabel) (y : ℕ) → (p .y ≡ y → ⊥) →
+    (policy : LabelPolicy) (l : EdgeLabel) (glyphs : List ℕ) →
+    touches ranges (placedLabelSpots policy ranges p l glyphs) y ≡ false
+unfolding placedLabelSpots touches some
+label-off ranges p y off policy label.None glyphs = refl
+label-off ranges p y off policy (label.Present span) glyphs =
+    by-bool (paintsUnder policy p) (λ t. rw t (text-off ranges (p .x) (p .y) (quoted glyphs) y off)) (λ t. rw t)
 
 module _ (image : List ℕ) (ts : Tables) (v : Window) (marks ranges : List ℕ) (staged : Staged image ts v marks ranges) (k : ℕ) where
   -- Writes into the window.
@@ -60,7 +79,25 @@ module _ (image : List ℕ) (ts : Tables) (v : Window) (marks ranges : List ℕ)
       (labelGlyphs image ts (nodeAt image (ts .nodes) k .label))) c
       (unmarked-touches image ts v marks ranges kind.Node number k marked staged there n m f)))
 
-  -- A placed label whose edge has no label, one that the policy leaves out, and one that is painted.
+  -- A placed label on a row that the window lacks, one whose edge has no label, one that the policy leaves out, and one that is painted.
+
+  pub label-elsewhere :
+      (row : ℕ) (has : Bool) (c : Canvas) →
+      row ≡ placedLabelAt image (ts .labels) k .y →
+      has ≡ inWindow v row →
+      has ≡ false →
+      Inked (placedLabelWrites image ts k) c c
+  unfolding placedLabelWrites
+  label-elsewhere row has c is asked lacks =
+      let p = placedLabelAt image (ts .labels) k in
+      let e = edgeAt image (ts .edges) (p .edge) in
+      let glyphs = edgeLabelGlyphs image ts (e .label) in
+      let off : (y : ℕ) → v .first ≤ y → y < v .first + v .rows → p .y ≡ y → ⊥ =
+      λ y f l same. let there : inWindow v row ≡ true = rw (is, same) (within v y f l) in clash there (sym asked ∙ lacks) in
+      rw (staged .read)
+      (sym (untouched v (rangesOf image ts) (colourTint (e .«label_colour»))
+      (placedLabelSpots (headerOf image .policy) (rangesOf image ts) p (e .label) glyphs) c
+      (λ y f l. label-off (rangesOf image ts) p y (off y f l) (headerOf image .policy) (e .label) glyphs)))
 
   module _
       (p : PlacedLabel) (edge : ℕ) (e : Edge) (c : Canvas)

@@ -1,6 +1,9 @@
-// The stages of placed labels and of nodes. Each group goes by index; of nodes those are passed over that no element lists with rows of the window.
+// The stages of placed labels and of nodes. Each group goes by index; of placed labels those are passed over whose row the window lacks, and of nodes those
+// that no element lists with rows of the window.
 ghost use mathlib.Core.Path.{_≡_};
 ghost use Prim.Native.Nat.{_<_};
+ghost use Rattle.layout.specs.Small.{AllSmall};
+ghost use Rattle.image.specs.Records.{placedLabelAt};
 ghost use Rattle.window.specs.Window.{inkWindow, canvasOf, Ready};
 ghost use Rattle.stage.specs.Staged.{Staged};
 ghost use Rattle.picture.specs.Writes.{placedLabelWrites, placedLabels, nodeWrites, nodes};
@@ -13,9 +16,16 @@ use window::Lent;
 use window::Paint;
 use window::Tint;
 
-// Placed label k, in its edge's label colour: "An edge that has no label present paints nothing for it." "A placed label is no element's", so that none is
-// passed over.
-fn paint_placed_label(
+// The row of placed label k.
+fn label_row(image: &[u32], ts: Tables, k: usize) -> usize
+    requires { ⌜ AllSmall ts × (k < ts .labels .count) ⌝ }
+    ensures { λ r. ⌜ r ≡ placedLabelAt (now (image .entry)) (ts .labels) k .y ⌝ }
+{
+    ground::number(layout::field(image, ts.labels, k, layout::LABEL_Y))
+}
+
+// The text of placed label k, in its edge's label colour: "An edge that has no label present paints nothing for it."
+fn paint_label_text(
     image: &[u32],
     ts: Tables,
     v: Window,
@@ -47,6 +57,29 @@ fn paint_placed_label(
         let x = ground::number(placed.x);
         let y = ground::number(placed.y);
         labels::paint_quoted(cells, colours, stamps, lent, ranges, v, x, y, glyphs, tint);
+    }
+}
+
+// Placed label k. "A placed label is no element's", so that none is passed over by a mark; but all its glyphs stand on one row, and where the window lacks
+// that row no more of the label is read.
+fn paint_placed_label(
+    image: &[u32],
+    ts: Tables,
+    v: Window,
+    lent: Lent,
+    ranges: &[u32],
+    marks: &[u8],
+    cells: &mut [u32],
+    colours: &mut [u32],
+    stamps: &mut [u32],
+    k: usize,
+)
+    requires { ⌜ Staged (now image) ts v (now marks) (now ranges) × Ready lent v (now cells) (now colours) (now stamps) × (k < ts .labels .count) ⌝ }
+    ensures { λ _. ⌜ canvasOf lent (now (cells .exit)) (now (colours .exit)) (now (stamps .exit)) ≡ inkWindow v (now (ranges .entry)) (placedLabelWrites (now (image .entry)) ts k) (canvasOf lent (now (cells .entry)) (now (colours .entry)) (now (stamps .entry))) ⌝ }
+{
+    let row = label_row(image, ts, k);
+    if v.has(row) {
+        paint_label_text(image, ts, v, lent, ranges, marks, cells, colours, stamps, k);
     }
 }
 
