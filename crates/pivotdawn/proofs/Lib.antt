@@ -1,0 +1,2 @@
+-- What holds of the calls for C and Rust.
+pub mod Theorems
