@@ -1,0 +1,2 @@
+-- Words as text.
+pub mod Hex

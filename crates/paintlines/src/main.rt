@@ -1,0 +1,304 @@
+// For each request of a stream on standard input, what painting answers and every lent word afterwards. Words are of four bytes, the most significant first.
+//
+// A request is twelve words and the words of an image:
+// 0: how many words the image has, at most 131,072
+// 1: flags, bit 0 for coloured and bit 1 for the short form
+// 2 and 3: the first row, its high word and its low word
+// 4 and 5: how many rows, high word and low word
+// 6 to 9: how many words are lent of cells, colours, stamps and scratch, each at most 147,456
+// 10 and 11: 0
+// A plain request is lent cells and scratch alone. Before each request word i of lent buffer b (1 cells, 2 colours, 3 stamps, 4 scratch) holds 0x50000000 + 0x1000000 b + i.
+//
+// The answer is a line with code and place, and a line for each lent buffer: its name, and its words as eight upper-case hex digits each, single-spaced; or in the short form its name and one
+// checksum, also as hex digits: h begins as 0 and becomes (31 h + w + 1) mod 4294967291 for each word w.
+// A request over a limit, or with another flag, or with a word 10 or 11 that is not 0, and a stream that breaks off inside a request, end the answers with `unread`.
+ghost use Prim.Native.Nat.{_*_, _≤_};
+ghost use lib.ListN.{length};
+ghost use Rattle.paintlines.specs.Request.{mostLent, HasRoom, Fitting, Planes, Buffers};
+use libc::STDIN_FILENO;
+
+mod buffer;
+mod say;
+
+// The most words of an image.
+const MOST_WORDS: usize = 131072;
+
+// The most words lent of a buffer.
+const MOST_LENT: usize = 147456;
+
+// Words of a request before the image.
+const HEAD_WORDS: usize = 12;
+
+// All flags: coloured and short form.
+const ALL_FLAGS: u32 = 3;
+
+// What is asked of painting.
+struct Request {
+    // words of the image
+    words: usize,
+    // whether colours and stamps are lent too
+    coloured: bool,
+    // whether a checksum stands for each buffer
+    short: bool,
+    // first row of the band
+    first: usize,
+    // rows of the band
+    rows: usize,
+    // words lent of cells
+    cells: usize,
+    // words lent of colours
+    colours: usize,
+    // words lent of stamps
+    stamps: usize,
+    // words lent of scratch
+    scratch: usize,
+}
+
+// What stands next on the stream.
+enum Next {
+    // a request within the limits
+    Asked(Request),
+    // the stream ends
+    End,
+    // it breaks off, or what it asks is not to be answered
+    Unread,
+}
+
+// A number of two words, the high one first.
+fn long(high: u32, low: u32) -> usize {
+    0x1_0000_0000 * ground::number(high) + ground::number(low)
+}
+
+// The words of a request before its image, as they stand above.
+fn request_of(head: &[u32; HEAD_WORDS]) -> Request {
+    let flags = head[1];
+    Request {
+        words: ground::number(head[0]),
+        coloured: flags % 2 == 1,
+        short: flags / 2 % 2 == 1,
+        first: long(head[2], head[3]),
+        rows: long(head[4], head[5]),
+        cells: ground::number(head[6]),
+        colours: ground::number(head[7]),
+        stamps: ground::number(head[8]),
+        scratch: ground::number(head[9]),
+    }
+}
+
+// The most words that are lent of one buffer.
+fn most_lent(r: Request) -> usize
+    ensures { λ n. ⌜ (r .cells ≤ n) × (r .colours ≤ n) × (r .stamps ≤ n) × (r .scratch ≤ n) ⌝ }
+{
+    ground::max(
+        ground::max(r.cells, r.colours),
+        ground::max(r.stamps, r.scratch),
+    )
+}
+
+// A request over a limit is not to be answered.
+fn within_limits(r: Request) -> Next
+    ensures { λ next. ⌜ Fitting next ⌝ }
+{
+    if MOST_WORDS < r.words {
+        return Next::Unread;
+    }
+    if MOST_LENT < most_lent(r) {
+        return Next::Unread;
+    }
+    Next::Asked(r)
+}
+
+// What the words before an image ask. Where another flag is set, or one of the last two words is not 0, it is not to be answered.
+fn asked(head: &[u32; HEAD_WORDS]) -> Next
+    ensures { λ next. ⌜ Fitting next ⌝ }
+{
+    if ALL_FLAGS < head[1] {
+        return Next::Unread;
+    }
+    if head[10] != 0 {
+        return Next::Unread;
+    }
+    if head[11] != 0 {
+        return Next::Unread;
+    }
+    within_limits(request_of(head))
+}
+
+fn next_request() -> Next
+    ensures { λ next. ⌜ Fitting next ⌝ }
+{
+    let mut bytes = [0u8; 4 * HEAD_WORDS];
+    let got = io::read_full(STDIN_FILENO, &mut bytes);
+    if got == 0 {
+        return Next::End;
+    }
+    if got < 4 * HEAD_WORDS {
+        return Next::Unread;
+    }
+    let mut head = [0u32; HEAD_WORDS];
+    wordfile::fill(&bytes, &mut head);
+    asked(&head)
+}
+
+// Answers a plain request, in buffers of the lengths that it asks for.
+fn answer_plain(r: Request, image: &[u32], cells: &mut [u32], scratch: &mut [u32])
+    requires { ⌜ (length (now cells) ≤ mostLent) × (length (now scratch) ≤ mostLent) ⌝ }
+{
+    buffer::fill_pattern(buffer::CELLS, cells);
+    buffer::fill_pattern(buffer::SCRATCH, scratch);
+    say::outcome(paint::paint(image, r.first, r.rows, cells, scratch));
+    say::buffer(b"cells", cells, r.short);
+    say::buffer(b"scratch", scratch, r.short);
+}
+
+// The four buffers as they stand before a request.
+fn fill_all(cells: &mut [u32], colours: &mut [u32], stamps: &mut [u32], scratch: &mut [u32])
+    requires { ⌜ (length (now cells) ≤ mostLent) × (length (now colours) ≤ mostLent) ⌝ }
+    requires { ⌜ (length (now stamps) ≤ mostLent) × (length (now scratch) ≤ mostLent) ⌝ }
+{
+    buffer::fill_pattern(buffer::CELLS, cells);
+    buffer::fill_pattern(buffer::COLOURS, colours);
+    buffer::fill_pattern(buffer::STAMPS, stamps);
+    buffer::fill_pattern(buffer::SCRATCH, scratch);
+}
+
+// A line for each of the four buffers.
+fn say_all(cells: &[u32], colours: &[u32], stamps: &[u32], scratch: &[u32], short: bool) {
+    say::buffer(b"cells", cells, short);
+    say::buffer(b"colours", colours, short);
+    say::buffer(b"stamps", stamps, short);
+    say::buffer(b"scratch", scratch, short);
+}
+
+// Answers a coloured request, in buffers of the lengths that it asks for.
+fn answer_coloured(
+    r: Request,
+    image: &[u32],
+    cells: &mut [u32],
+    colours: &mut [u32],
+    stamps: &mut [u32],
+    scratch: &mut [u32],
+)
+    requires { ⌜ (length (now cells) ≤ mostLent) × (length (now colours) ≤ mostLent) ⌝ }
+    requires { ⌜ (length (now stamps) ≤ mostLent) × (length (now scratch) ≤ mostLent) ⌝ }
+{
+    fill_all(cells, colours, stamps, scratch);
+    say::outcome(paint::paint_coloured(image, r.first, r.rows, cells, colours, stamps, scratch));
+    say_all(cells, colours, stamps, scratch, r.short);
+}
+
+// Reads so many words of an image; and whether they are there.
+fn read_image(count: usize, bytes: &mut [u8], image: &mut [u32]) -> bool
+    requires { ⌜ 4 * count ≤ length (now bytes) ⌝ }
+{
+    let size = 4 * count;
+    let got = io::read_full(STDIN_FILENO, &mut bytes[..size]);
+    if got < size {
+        return false;
+    }
+    wordfile::fill(&bytes[..size], image);
+    true
+}
+
+// Answers a request whose image was read, in parts of the buffers.
+fn answer_read(
+    r: Request,
+    image: &[u32],
+    cells: &mut [u32],
+    colours: &mut [u32],
+    stamps: &mut [u32],
+    scratch: &mut [u32],
+)
+    requires { ⌜ HasRoom r × Planes (now cells) (now colours) (now stamps) (now scratch) ⌝ }
+{
+    let cell_count = r.cells;
+    let scratch_count = r.scratch;
+    if r.coloured {
+        let colour_count = r.colours;
+        let stamp_count = r.stamps;
+        answer_coloured(
+            r,
+            image,
+            &mut cells[..cell_count],
+            &mut colours[..colour_count],
+            &mut stamps[..stamp_count],
+            &mut scratch[..scratch_count],
+        );
+    } else {
+        answer_plain(
+            r,
+            image,
+            &mut cells[..cell_count],
+            &mut scratch[..scratch_count],
+        );
+    }
+}
+
+// Reads the image of a request and answers it; and whether the image could be read.
+fn answer(
+    r: Request,
+    bytes: &mut [u8],
+    image: &mut [u32],
+    cells: &mut [u32],
+    colours: &mut [u32],
+    stamps: &mut [u32],
+    scratch: &mut [u32],
+) -> bool
+    requires { ⌜ HasRoom r × Buffers (now bytes) (now image) (now cells) (now colours) (now stamps) (now scratch) ⌝ }
+{
+    let words = r.words;
+    if !read_image(words, bytes, image) {
+        say::unread();
+        return false;
+    }
+    answer_read(r, &image[..words], cells, colours, stamps, scratch);
+    true
+}
+
+// Answers the next request; and whether there may be another.
+fn step(
+    bytes: &mut [u8],
+    image: &mut [u32],
+    cells: &mut [u32],
+    colours: &mut [u32],
+    stamps: &mut [u32],
+    scratch: &mut [u32],
+) -> bool
+    requires { ⌜ Buffers (now bytes) (now image) (now cells) (now colours) (now stamps) (now scratch) ⌝ }
+{
+    let next = next_request();
+    match next {
+        Next::Asked(r) => answer(r, bytes, image, cells, colours, stamps, scratch),
+        Next::End => false,
+        Next::Unread => {
+            say::unread();
+            false
+        }
+    }
+}
+
+// A proved loop has to end, and nothing says that a stream does: the turns are counted down from a number that no stream uses up.
+fn main() {
+    let mut bytes = [0u8; 4 * MOST_WORDS];
+    let mut image = [0u32; MOST_WORDS];
+    let mut cells = [0u32; MOST_LENT];
+    let mut colours = [0u32; MOST_LENT];
+    let mut stamps = [0u32; MOST_LENT];
+    let mut scratch = [0u32; MOST_LENT];
+    let mut turns = u64::MAX;
+    let mut more = true;
+    while more {
+        if turns == 0 {
+            return;
+        }
+        more = step(
+            &mut bytes,
+            &mut image,
+            &mut cells,
+            &mut colours,
+            &mut stamps,
+            &mut scratch,
+        );
+        turns -= 1;
+    }
+}

@@ -1,0 +1,2 @@
+-- The sizes of bands.
+pub mod Bands
