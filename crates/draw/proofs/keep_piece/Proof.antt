@@ -4,14 +4,8 @@ use Rattle.draw.proofs.Laws.{row-small, first-small, last-small, run-no
 use Rattle.draw.proofs.keep_piece.Statement.{statement}
 use Rattle.draw.proofs.keep_piece.Tie as tie
 
-enum-known-piece : tie.Need-enum-known-piece
-enum-known-piece c = search needs
-
 returns : tie.Need-returns
 returns c = search (run-none, needs)
-
-has-requires : tie.Need-has-requires
-has-requires c κs = search needs
 
 cast-t12 : tie.Need-cast-t12
 cast-t12 c = search (row-small, needs)
@@ -21,15 +15,6 @@ cast-t13 c = search (first-small, needs)
 
 cast-t14 : tie.Need-cast-t14
 cast-t14 c = search (last-small, needs)
-
-number-requires : tie.Need-number-requires
-number-requires c κs = search needs
-
-keep-run-requires : tie.Need-keep-run-requires
-keep-run-requires c κs = search needs
-
-same-length : tie.Need-same-length
-same-length c = search needs
 
 returns-2 : tie.Need-returns-2
 returns-2 c = search (run-kept, needs)
@@ -41,14 +26,14 @@ pub keep-piece-spec : {M : Type 1} → statement M
 keep-piece-spec =
     tie.close
     (tie.spec
-    enum-known-piece
+    (λ c. search needs)
     returns
-    has-requires
+    (λ c κs. search needs)
     cast-t12
     cast-t13
     cast-t14
-    number-requires
-    keep-run-requires
-    same-length
+    (λ c κs. search needs)
+    (λ c κs. search needs)
+    (λ c. search needs)
     returns-2
     returns-3)

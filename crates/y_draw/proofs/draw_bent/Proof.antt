@@ -1,26 +1,17 @@
 -- `draw_bent` draws a way that bends once.
-use native.Mathlib.Omega.{arith}
 use borrow.Author.Needs.{needs}
+use native.Mathlib.Omega.{arith}
 use mathlib.Core.Path.{_∙_}
 use Rattle.draw.proofs.Laws.{ready-then, drawable-after}
 use Rattle.y_draw.proofs.Laws.{trunk-line, start-cell, tail-line, bent-drawn}
 use Rattle.y_draw.proofs.draw_bent.Statement.{statement}
 use Rattle.y_draw.proofs.draw_bent.Tie as tie
 
-trunk-requires : tie.Need-trunk-requires
-trunk-requires c κs = search needs
-
 draw-line-requires : tie.Need-draw-line-requires
 draw-line-requires c κs = (search (trunk-line, needs), search needs)
 
-own-start-requires : tie.Need-own-start-requires
-own-start-requires c κs = search needs
-
 draw-cell-requires : tie.Need-draw-cell-requires
 draw-cell-requires c κs = (search (start-cell, needs), ready-then _ _ _ _ _ _ _ _ _ (c .before .before .before .before .before .before .before .before .before .before .draw-line .ensures) (c .before .before .before .before .before .before .before .before .before .before .before .before .before .before .before .before .before .before .before .before .pre .0 .ready))
-
-corner-arrow-requires : tie.Need-corner-arrow-requires
-corner-arrow-requires c κs = search needs
 
 draw-crossing-requires : tie.Need-draw-crossing-requires
 draw-crossing-requires c κs =
@@ -56,9 +47,6 @@ same-length-2 c = c .before .before .before .colours4 .given ∙ c .before .befo
 same-length-3 : tie.Need-same-length-3
 same-length-3 c = c .before .stamps4 .given ∙ c .before .before .before .before .before .before .before .before .before .before .before .before .before .before .stamps3 .given ∙ c .before .before .before .before .before .before .before .before .before .before .before .before .before .before .before .before .before .before .before .before .before .before .before .before .before .before .stamps2 .given ∙ c .before .before .before .before .before .before .before .before .before .before .before .before .before .before .before .before .before .before .before .before .before .before .before .before .before .before .before .before .before .before .before .before .before .before .before .before .before .stamps .given
 
-same-length-4 : tie.Need-same-length-4
-same-length-4 c = search needs
-
 returns : tie.Need-returns
 returns c =
     let ended = c .before .before .before .before .before .before in
@@ -76,16 +64,16 @@ pub draw-bent-spec : {M : Type 1} → statement M
 draw-bent-spec =
     tie.close
     (tie.spec
-    trunk-requires
+    (λ c κs. search needs)
     draw-line-requires
-    own-start-requires
+    (λ c κs. search needs)
     draw-cell-requires
-    corner-arrow-requires
+    (λ c κs. search needs)
     draw-crossing-requires
     tail-requires
     draw-line-requires-2
     same-length
     same-length-2
     same-length-3
-    same-length-4
+    (λ c. search needs)
     returns)

@@ -7,39 +7,6 @@ use Rattle.y_draw.proofs.Laws.{channel-line, tail-line, side-drawn}
 use Rattle.y_draw.proofs.draw_side.Statement.{statement}
 use Rattle.y_draw.proofs.draw_side.Tie as tie
 
-sign-requires : tie.Need-sign-requires
-sign-requires c κs = search needs
-
-number-requires : tie.Need-number-requires
-number-requires c κs = search needs
-
-number-requires-2 : tie.Need-number-requires-2
-number-requires-2 c κs = search needs
-
-number-requires-3 : tie.Need-number-requires-3
-number-requires-3 c κs = search needs
-
-number-requires-4 : tie.Need-number-requires-4
-number-requires-4 c κs = search needs
-
-number-requires-5 : tie.Need-number-requires-5
-number-requires-5 c κs = search needs
-
-number-requires-6 : tie.Need-number-requires-6
-number-requires-6 c κs = search needs
-
-target-marker-requires : tie.Need-target-marker-requires
-target-marker-requires c κs = search needs
-
-channel-line-requires : tie.Need-channel-line-requires
-channel-line-requires c κs = search needs
-
-tail-requires : tie.Need-tail-requires
-tail-requires c κs = search needs
-
-draw-crossing-requires : tie.Need-draw-crossing-requires
-draw-crossing-requires c κs = search needs
-
 draw-line-requires : tie.Need-draw-line-requires
 draw-line-requires c κs =
     let turned = c .before .before .before .before .before .before .before .before .before .before .before in
@@ -104,17 +71,17 @@ pub draw-side-spec : {M : Type 1} → statement M
 draw-side-spec =
     tie.close
     (tie.spec
-    sign-requires
-    number-requires
-    number-requires-2
-    number-requires-3
-    number-requires-4
-    number-requires-5
-    number-requires-6
-    target-marker-requires
-    channel-line-requires
-    tail-requires
-    draw-crossing-requires
+    (λ c κs. search needs)
+    (λ c κs. search needs)
+    (λ c κs. search needs)
+    (λ c κs. search needs)
+    (λ c κs. search needs)
+    (λ c κs. search needs)
+    (λ c κs. search needs)
+    (λ c κs. search needs)
+    (λ c κs. search needs)
+    (λ c κs. search needs)
+    (λ c κs. search needs)
     draw-line-requires
     draw-crossing-requires-2
     draw-line-requires-2

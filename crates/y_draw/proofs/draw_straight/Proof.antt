@@ -5,9 +5,6 @@ use Rattle.y_draw.proofs.Laws.{start-cell, straight-line, straight-draw
 use Rattle.y_draw.proofs.draw_straight.Statement.{statement}
 use Rattle.y_draw.proofs.draw_straight.Tie as tie
 
-own-start-requires : tie.Need-own-start-requires
-own-start-requires c κs = search needs
-
 draw-cell-requires : tie.Need-draw-cell-requires
 draw-cell-requires c κs = (search (start-cell, needs), search needs)
 
@@ -16,15 +13,6 @@ straight-line-requires c κs = c .before .before .before .before .before .before
 
 draw-line-requires : tie.Need-draw-line-requires
 draw-line-requires c κs = (search (straight-line, needs), ready-then _ _ _ _ _ _ _ _ _ (c .before .before .before .before .before .before .before .before .before .before .draw-cell .ensures) (c .before .before .before .before .before .before .before .before .before .before .before .before .before .before .before .before .before .before .before .before .pre .0))
-
-same-length : tie.Need-same-length
-same-length c = search needs
-
-same-length-2 : tie.Need-same-length-2
-same-length-2 c = search needs
-
-same-length-3 : tie.Need-same-length-3
-same-length-3 c = search needs
 
 returns : tie.Need-returns
 returns c =
@@ -38,11 +26,11 @@ pub draw-straight-spec : {M : Type 1} → statement M
 draw-straight-spec =
     tie.close
     (tie.spec
-    own-start-requires
+    (λ c κs. search needs)
     draw-cell-requires
     straight-line-requires
     draw-line-requires
-    same-length
-    same-length-2
-    same-length-3
+    (λ c. search needs)
+    (λ c. search needs)
+    (λ c. search needs)
     returns)

@@ -5,35 +5,14 @@ use Rattle.y_draw.proofs.Laws.{cross-run, first-cell, last-cell, turns-
 use Rattle.y_draw.proofs.draw_turns.Statement.{statement}
 use Rattle.y_draw.proofs.draw_turns.Tie as tie
 
-cross-run-requires : tie.Need-cross-run-requires
-cross-run-requires c κs = search needs
-
 keep-piece-requires : tie.Need-keep-piece-requires
 keep-piece-requires c κs = (search (cross-run, needs), search needs, search needs)
-
-cross-first-requires : tie.Need-cross-first-requires
-cross-first-requires c κs = search needs
 
 draw-cell-requires : tie.Need-draw-cell-requires
 draw-cell-requires c κs = (search (first-cell, needs), search needs)
 
-cross-last-requires : tie.Need-cross-last-requires
-cross-last-requires c κs = search needs
-
 draw-cell-requires-2 : tie.Need-draw-cell-requires-2
 draw-cell-requires-2 c κs = (search (last-cell, needs), ready-then _ _ _ _ _ _ _ _ _ (c .before .before .before .before .before .before .before .before .before .before .draw-cell .ensures) (c .before .before .before .before .before .before .before .before .before .before .before .before .before .before .before .before .before .before .before .before .before .before .before .before .before .pre .0 .ready))
-
-same-length : tie.Need-same-length
-same-length c = search needs
-
-same-length-2 : tie.Need-same-length-2
-same-length-2 c = search needs
-
-same-length-3 : tie.Need-same-length-3
-same-length-3 c = search needs
-
-same-length-4 : tie.Need-same-length-4
-same-length-4 c = search needs
 
 returns : tie.Need-returns
 returns c =
@@ -50,14 +29,14 @@ pub draw-turns-spec : {M : Type 1} → statement M
 draw-turns-spec =
     tie.close
     (tie.spec
-    cross-run-requires
+    (λ c κs. search needs)
     keep-piece-requires
-    cross-first-requires
+    (λ c κs. search needs)
     draw-cell-requires
-    cross-last-requires
+    (λ c κs. search needs)
     draw-cell-requires-2
-    same-length
-    same-length-2
-    same-length-3
-    same-length-4
+    (λ c. search needs)
+    (λ c. search needs)
+    (λ c. search needs)
+    (λ c. search needs)
     returns)
