@@ -1,8 +1,10 @@
-// The compositor for C and Rust to link: numbers and slices alone. In C a slice is a pointer and a length.
+// Pivotdawn for C and Rust to link: its three public calls, with numbers and slices alone. In C a slice is a pointer and a length; `include/pivotdawn.h` declares all three.
 ghost use mathlib.Core.Path.{_≡_};
 ghost use lib.ListN.{set};
 ghost use Rattle.refusals.specs.Rules.{checked};
-ghost use Rattle.pivotdawn.specs.Told.{told};
+ghost use Rattle.picture.specs.Painted.{painted, paintedColoured};
+ghost use Rattle.paint.specs.Outcome.{outcomeOf};
+ghost use Rattle.pivotdawn.specs.Told.{told, toldPlace};
 
 // Stores a number at a place, where there is one.
 fn store(words: &mut [u64], place: usize, value: usize)
@@ -13,7 +15,7 @@ fn store(words: &mut [u64], place: usize, value: usize)
     }
 }
 
-// "Check and paint answer a code and a place; check adds the run count": answers the code of an image; its place goes into word 0 of `answer`, its run count into word 1.
+// `check`: answers the code of an image; its place goes into word 0 of `answer`, its run count into word 1.
 #[no_mangle]
 pub extern "C" fn pivotdawn_check(image: &[u32], answer: &mut [u64]) -> u32
     ensures { λ r. ⌜ r ≡ checked (now (image .entry)) .code ⌝ }
@@ -23,4 +25,48 @@ pub extern "C" fn pivotdawn_check(image: &[u32], answer: &mut [u64]) -> u32
     store(answer, 0, found.place);
     store(answer, 1, found.runs);
     found.code
+}
+
+// `paint`: answers the code of a plain band; its place goes into word 0 of `answer`.
+#[no_mangle]
+pub extern "C" fn pivotdawn_paint(
+    image: &[u32],
+    first: usize,
+    rows: usize,
+    cells: &mut [u32],
+    scratch: &mut [u32],
+    answer: &mut [u64],
+) -> u32
+    ensures { λ r. ⌜ r ≡ outcomeOf (painted (now (image .entry)) first rows (now (cells .entry)) (now (scratch .entry)) .verdict) .code ⌝ }
+    ensures { λ _. ⌜ now (cells .exit) ≡ painted (now (image .entry)) first rows (now (cells .entry)) (now (scratch .entry)) .cells ⌝ }
+    ensures { λ _. ⌜ now (scratch .exit) ≡ painted (now (image .entry)) first rows (now (cells .entry)) (now (scratch .entry)) .scratch ⌝ }
+    ensures { λ _. ⌜ now (answer .exit) ≡ toldPlace (outcomeOf (painted (now (image .entry)) first rows (now (cells .entry)) (now (scratch .entry)) .verdict)) (now (answer .entry)) ⌝ }
+{
+    let plain = paint::paint(image, first, rows, cells, scratch);
+    store(answer, 0, plain.place);
+    plain.code
+}
+
+// `paint_coloured`: answers the code of a coloured band; its place goes into word 0 of `answer`.
+#[no_mangle]
+pub extern "C" fn pivotdawn_paint_coloured(
+    image: &[u32],
+    first: usize,
+    rows: usize,
+    cells: &mut [u32],
+    colours: &mut [u32],
+    stamps: &mut [u32],
+    scratch: &mut [u32],
+    answer: &mut [u64],
+) -> u32
+    ensures { λ r. ⌜ r ≡ outcomeOf (paintedColoured (now (image .entry)) first rows (now (cells .entry)) (now (colours .entry)) (now (stamps .entry)) (now (scratch .entry)) .verdict) .code ⌝ }
+    ensures { λ _. ⌜ now (cells .exit) ≡ paintedColoured (now (image .entry)) first rows (now (cells .entry)) (now (colours .entry)) (now (stamps .entry)) (now (scratch .entry)) .cells ⌝ }
+    ensures { λ _. ⌜ now (colours .exit) ≡ paintedColoured (now (image .entry)) first rows (now (cells .entry)) (now (colours .entry)) (now (stamps .entry)) (now (scratch .entry)) .colours ⌝ }
+    ensures { λ _. ⌜ now (stamps .exit) ≡ paintedColoured (now (image .entry)) first rows (now (cells .entry)) (now (colours .entry)) (now (stamps .entry)) (now (scratch .entry)) .stamps ⌝ }
+    ensures { λ _. ⌜ now (scratch .exit) ≡ paintedColoured (now (image .entry)) first rows (now (cells .entry)) (now (colours .entry)) (now (stamps .entry)) (now (scratch .entry)) .scratch ⌝ }
+    ensures { λ _. ⌜ now (answer .exit) ≡ toldPlace (outcomeOf (paintedColoured (now (image .entry)) first rows (now (cells .entry)) (now (colours .entry)) (now (stamps .entry)) (now (scratch .entry)) .verdict)) (now (answer .entry)) ⌝ }
+{
+    let coloured = paint::paint_coloured(image, first, rows, cells, colours, stamps, scratch);
+    store(answer, 0, coloured.place);
+    coloured.code
 }

@@ -1,0 +1,26 @@
+-- `pivotdawn_paint` answers the code of the band, and stores its place.
+use borrow.Author.Needs.{needs}
+use denote.Ref.{now}
+use Rattle.pivotdawn.proofs.Told.{code-told, place-told}
+use Rattle.pivotdawn.proofs.pivotdawn_paint.Statement.{statement}
+use Rattle.pivotdawn.proofs.pivotdawn_paint.Tie as tie
+
+returns : tie.Need-returns
+returns c =
+    let stored = c .before .before in
+    let painted = stored .before .before .before .before .before .before in
+    let begun = painted .before .before .before .before .before .before .before in
+    let band = painted .paint .ensures in
+    let answer = place-told _ _ (band .0) (now (begun .args .answer)) _ (stored .store .ensures) in
+    (code-told _ _ (band .0), (band .1 .0, (band .1 .1, answer)))
+
+pub pivotdawn-paint-spec : {M : Type 1} → statement M
+pivotdawn-paint-spec =
+    tie.close
+    (tie.spec
+    (λ c κs. search needs)
+    (λ c κs. search needs)
+    (λ c. search needs)
+    (λ c. search needs)
+    (λ c. search needs)
+    returns)
