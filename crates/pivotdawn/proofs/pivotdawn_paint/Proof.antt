@@ -1,7 +1,7 @@
 -- `pivotdawn_paint` answers the code of the band, and stores its place.
 use borrow.Author.Needs.{needs}
 use denote.Ref.{now}
-use Rattle.pivotdawn.proofs.Told.{code-told, place-told}
+use Rattle.pivotdawn.proofs.Told.{band-code, band-words}
 use Rattle.pivotdawn.proofs.pivotdawn_paint.Statement.{statement}
 use Rattle.pivotdawn.proofs.pivotdawn_paint.Tie as tie
 
@@ -11,8 +11,8 @@ returns c =
     let painted = stored .before .before .before .before .before .before in
     let begun = painted .before .before .before .before .before .before .before in
     let band = painted .paint .ensures in
-    let answer = place-told _ _ (band .0) (now (begun .args .answer)) _ (stored .store .ensures) in
-    (code-told _ _ (band .0), (band .1 .0, (band .1 .1, answer)))
+    let answer = band-words _ _ (band .0) (now (begun .args .answer)) _ (stored .store .ensures) in
+    (band-code _ _ (band .0), (band .1 .0, (band .1 .1, answer)))
 
 pub pivotdawn-paint-spec : {M : Type 1} → statement M
 pivotdawn-paint-spec =
