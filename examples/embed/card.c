@@ -1,0 +1,394 @@
+/*
+ * card FILE [--colour]: shows a sheet image as text in UTF-8, painted in bands of eight rows
+ * as a small display would do it. With --colour the coloured columns of each row follow.
+ *
+ * Exit status: 0 shown; 1 the image is refused; 2 a bad call, a file that cannot be read or is
+ * no file of words, no memory, or output that cannot be written.
+ */
+#include "../../include/pivotdawn.h"
+
+#include <errno.h>
+#include <stdio.h>
+#include <stdlib.h>
+#include <string.h>
+
+enum status { SHOWN = 0, REFUSED = 1, NOT_TRIED = 2 };
+
+enum { BAND_ROWS = 8, WORD_BYTES = 4, MOST_BYTES = PIVOTDAWN_MOST_WORDS * WORD_BYTES };
+
+/* An image, and the buffers that a band of it is painted in. */
+struct sheet {
+    const char *path;
+    uint32_t *image;
+    size_t words;
+    int coloured;
+    size_t plane_words; /* of the cells, and if coloured of the colours and of the stamps */
+    uint32_t *cells;
+    uint32_t *colours;
+    uint32_t *stamps;
+    size_t scratch_words;
+    uint32_t *scratch;
+};
+
+static int not_tried(const char *path, const char *why)
+{
+    fprintf(stderr, "card: %s: %s\n", path, why);
+    return NOT_TRIED;
+}
+
+/* ---- refusals in words ---- */
+
+static const char *const reasons[] = {
+    [PIVOTDAWN_ACCEPTED] = "accepted",
+    [PIVOTDAWN_NO_HEADER] = "it is too short for a header",
+    [PIVOTDAWN_BAD_HEADER] = "a number of the header is over its limit, or has a spare bit set",
+    [PIVOTDAWN_WRONG_LENGTH] = "it is not as long as its header says",
+    [PIVOTDAWN_BAD_FIELD] = "a field holds what it may not hold, or points out of its table",
+    [PIVOTDAWN_BAD_RANGE] = "a width range is upside down, out of order, or holds a space, quote or bracket",
+    [PIVOTDAWN_CORNER_OUTSIDE] = "an edge has a corner above row 0 or left of column 0",
+    [PIVOTDAWN_LISTED_TWICE] = "an element lists what is listed already",
+    [PIVOTDAWN_LIST_DISORDER] = "an element's rows are upside down, or it starts above the one before it",
+    [PIVOTDAWN_ROW_UNLISTED] = "a node, edge or subgraph shows on a row that it is not listed for",
+    [PIVOTDAWN_FEW_RUNS] = "the run capacity is below the number of runs",
+    [PIVOTDAWN_BAND_OUTSIDE] = "the band leaves the sheet",
+    [PIVOTDAWN_SHORT_BUFFER] = "a buffer is too short",
+};
+
+static const char *const buffers[] = {
+    [PIVOTDAWN_CELLS] = "the cells",
+    [PIVOTDAWN_COLOURS] = "the colours",
+    [PIVOTDAWN_STAMPS] = "the stamps",
+    [PIVOTDAWN_SCRATCH] = "the scratch",
+};
+
+/* Where: what the place of a code means. */
+static void tell_place(uint32_t code, uint64_t place)
+{
+    switch (code) {
+    case PIVOTDAWN_NO_HEADER:
+    case PIVOTDAWN_BAND_OUTSIDE:
+        break;
+    case PIVOTDAWN_WRONG_LENGTH:
+        fprintf(stderr, " (%llu words are wanted)", (unsigned long long)place);
+        break;
+    case PIVOTDAWN_SHORT_BUFFER:
+        fprintf(stderr, " (%s)", place < sizeof buffers / sizeof buffers[0] ? buffers[place] : "unknown");
+        break;
+    default:
+        fprintf(stderr, " (word %llu)", (unsigned long long)place);
+    }
+}
+
+static int refused(const struct sheet *sheet, uint32_t code, uint64_t place)
+{
+    const char *reason = code < sizeof reasons / sizeof reasons[0] ? reasons[code] : "for a reason unknown";
+
+    fprintf(stderr, "card: %s: refused, code %lu: %s", sheet->path, (unsigned long)code, reason);
+    tell_place(code, place);
+    fputc('\n', stderr);
+    return REFUSED;
+}
+
+/* ---- reading ---- */
+
+/* All bytes of a file, at most one more than an image may have. */
+static int read_bytes(const char *path, unsigned char *bytes, size_t *count)
+{
+    FILE *file = fopen(path, "rb");
+    int failed;
+
+    if (file == NULL)
+        return not_tried(path, strerror(errno));
+    errno = 0;
+    *count = fread(bytes, 1, MOST_BYTES + 1, file);
+    failed = ferror(file) ? errno : 0;
+    if (ferror(file) && failed == 0)
+        failed = EIO;
+    fclose(file);
+    return failed != 0 ? not_tried(path, strerror(failed)) : SHOWN;
+}
+
+/* A word from a file: the most significant byte first. */
+static uint32_t word_at(const unsigned char *bytes)
+{
+    return (uint32_t)bytes[0] << 24 | (uint32_t)bytes[1] << 16 | (uint32_t)bytes[2] << 8 | bytes[3];
+}
+
+static uint32_t *room_for(size_t words)
+{
+    return calloc(words > 0 ? words : 1, sizeof(uint32_t));
+}
+
+static int take_words(struct sheet *sheet, const unsigned char *bytes, size_t count)
+{
+    size_t i;
+
+    if (count > MOST_BYTES)
+        return not_tried(sheet->path, "longer than any sheet image");
+    if (count % WORD_BYTES != 0)
+        return not_tried(sheet->path, "not a whole number of words of four bytes");
+    sheet->words = count / WORD_BYTES;
+    sheet->image = room_for(sheet->words);
+    if (sheet->image == NULL)
+        return not_tried(sheet->path, "no memory for the image");
+    for (i = 0; i < sheet->words; i++)
+        sheet->image[i] = word_at(bytes + i * WORD_BYTES);
+    return SHOWN;
+}
+
+static int read_image(struct sheet *sheet)
+{
+    unsigned char *bytes = malloc(MOST_BYTES + 1);
+    size_t count = 0;
+    int status;
+
+    if (bytes == NULL)
+        return not_tried(sheet->path, "no memory to read it");
+    status = read_bytes(sheet->path, bytes, &count);
+    if (status == SHOWN)
+        status = take_words(sheet, bytes, count);
+    free(bytes);
+    return status;
+}
+
+/* ---- painting ---- */
+
+static int check_image(const struct sheet *sheet)
+{
+    uint64_t answer[PIVOTDAWN_ANSWER_WORDS];
+    uint32_t code = pivotdawn_check(sheet->image, sheet->words, answer, PIVOTDAWN_ANSWER_WORDS);
+
+    return code == PIVOTDAWN_ACCEPTED ? SHOWN : refused(sheet, code, answer[PIVOTDAWN_PLACE]);
+}
+
+/* Only of an image that is accepted. */
+static int lend_buffers(struct sheet *sheet)
+{
+    sheet->plane_words = pivotdawn_plane_words(sheet->image, BAND_ROWS);
+    sheet->scratch_words = pivotdawn_scratch_words(sheet->image);
+    sheet->cells = room_for(sheet->plane_words);
+    sheet->scratch = room_for(sheet->scratch_words);
+    if (sheet->coloured) {
+        sheet->colours = room_for(sheet->plane_words);
+        sheet->stamps = room_for(sheet->plane_words);
+    }
+    if (sheet->cells == NULL || sheet->scratch == NULL ||
+        (sheet->coloured && (sheet->colours == NULL || sheet->stamps == NULL)))
+        return not_tried(sheet->path, "no memory to paint it");
+    return SHOWN;
+}
+
+static int paint_band(const struct sheet *sheet, size_t first, size_t rows)
+{
+    uint64_t place = 0;
+    uint32_t code;
+
+    if (sheet->coloured)
+        code = pivotdawn_paint_coloured(sheet->image, sheet->words, first, rows,
+                                        sheet->cells, sheet->plane_words,
+                                        sheet->colours, sheet->plane_words,
+                                        sheet->stamps, sheet->plane_words,
+                                        sheet->scratch, sheet->scratch_words, &place, 1);
+    else
+        code = pivotdawn_paint(sheet->image, sheet->words, first, rows,
+                               sheet->cells, sheet->plane_words,
+                               sheet->scratch, sheet->scratch_words, &place, 1);
+    return code == PIVOTDAWN_ACCEPTED ? SHOWN : refused(sheet, code, place);
+}
+
+/* ---- a cell as text ---- */
+
+/* A character in UTF-8. One that would steer the terminal is replaced. */
+static void put_character(uint32_t point)
+{
+    if (point < 0x20 || (point >= 0x7F && point < 0xA0))
+        point = 0xFFFD;
+    if (point < 0x80) {
+        putchar((int)point);
+        return;
+    }
+    if (point < 0x800) {
+        putchar((int)(0xC0 | point >> 6));
+    } else {
+        if (point < 0x10000) {
+            putchar((int)(0xE0 | point >> 12));
+        } else {
+            putchar((int)(0xF0 | point >> 18));
+            putchar((int)(0x80 | (point >> 12 & 0x3F)));
+        }
+        putchar((int)(0x80 | (point >> 6 & 0x3F)));
+    }
+    putchar((int)(0x80 | (point & 0x3F)));
+}
+
+enum { HAS_UP = 1, HAS_DOWN = 2, HAS_LEFT = 4, HAS_RIGHT = 8 };
+
+/* By the arms there are: all light, double across, double up and down, all double. */
+static const char *const shapes[4][16] = {
+    {" ", "╵", "╷", "│", "╴", "┘", "┐", "┤", "╶", "└", "┌", "├", "─", "┴", "┬", "┼"},
+    {" ", "╵", "╷", "│", "═", "╛", "╕", "╡", "═", "╘", "╒", "╞", "═", "╧", "╤", "╪"},
+    {" ", "║", "║", "║", "╴", "╜", "╖", "╢", "╶", "╙", "╓", "╟", "─", "╨", "╥", "╫"},
+    {" ", "║", "║", "║", "═", "╝", "╗", "╣", "═", "╚", "╔", "╠", "═", "╩", "╦", "╬"},
+};
+
+/* The nearest box character: the two arms of a line show the heavier of their weights, and
+   only a straight line can be dashed. */
+static const char *stroke_shape(uint32_t cell)
+{
+    uint32_t up = PIVOTDAWN_ARM_UP(cell), down = PIVOTDAWN_ARM_DOWN(cell);
+    uint32_t left = PIVOTDAWN_ARM_LEFT(cell), right = PIVOTDAWN_ARM_RIGHT(cell);
+    int arms = (up ? HAS_UP : 0) | (down ? HAS_DOWN : 0) | (left ? HAS_LEFT : 0) | (right ? HAS_RIGHT : 0);
+    int upright = up == PIVOTDAWN_DOUBLE || down == PIVOTDAWN_DOUBLE;
+    int across = left == PIVOTDAWN_DOUBLE || right == PIVOTDAWN_DOUBLE;
+
+    if (arms == (HAS_UP | HAS_DOWN) && up == PIVOTDAWN_DASHED && down == PIVOTDAWN_DASHED)
+        return "┆";
+    if (arms == (HAS_LEFT | HAS_RIGHT) && left == PIVOTDAWN_DASHED && right == PIVOTDAWN_DASHED)
+        return "┄";
+    return shapes[2 * upright + across][arms];
+}
+
+static const char *marker_shape(uint32_t cell)
+{
+    static const char *const arrows[2][4] = {{"↑", "↓", "←", "→"}, {"⇡", "⇣", "⇠", "⇢"}};
+
+    switch (PIVOTDAWN_MARKER_KIND(cell)) {
+    case PIVOTDAWN_SELF_LOOP:
+        return "↻";
+    case PIVOTDAWN_DUMMY:
+        return "·";
+    default:
+        return arrows[PIVOTDAWN_MARKER_DASHED(cell)][PIVOTDAWN_MARKER_DIRECTION(cell)];
+    }
+}
+
+static void put_cell(uint32_t cell)
+{
+    switch (PIVOTDAWN_TAG(cell)) {
+    case PIVOTDAWN_TEXT:
+        if (cell != PIVOTDAWN_CONTINUATION)
+            put_character(PIVOTDAWN_CODE_POINT(cell));
+        break;
+    case PIVOTDAWN_STROKE:
+        fputs(stroke_shape(cell), stdout);
+        break;
+    case PIVOTDAWN_MARKER:
+        fputs(marker_shape(cell), stdout);
+        break;
+    default:
+        putchar(' ');
+    }
+}
+
+/* ---- a row as text ---- */
+
+static int is_blank(uint32_t cell)
+{
+    return PIVOTDAWN_TAG(cell) == PIVOTDAWN_EMPTY ||
+           (PIVOTDAWN_TAG(cell) == PIVOTDAWN_TEXT && PIVOTDAWN_CODE_POINT(cell) == ' ');
+}
+
+/* Row `row` of the sheet stands at `start` of the band. No line ends in a blank. */
+static void show_cells(const struct sheet *sheet, size_t start, size_t row)
+{
+    const uint32_t *cells = sheet->cells + start;
+    size_t end = sheet->image[PIVOTDAWN_WIDTH], x;
+
+    (void)row;
+    while (end > 0 && is_blank(cells[end - 1]))
+        end--;
+    for (x = 0; x < end; x++)
+        put_cell(cells[x]);
+    putchar('\n');
+}
+
+static void put_stretch(size_t first, size_t last, uint32_t colour)
+{
+    printf(" %lu", (unsigned long)first);
+    if (last > first)
+        printf("-%lu", (unsigned long)last);
+    printf(" %08lX", (unsigned long)colour);
+}
+
+/* The stretches of one colour, by their columns; colour 0 is none, and a row without any is
+   passed over. */
+static void show_colours(const struct sheet *sheet, size_t start, size_t row)
+{
+    const uint32_t *colours = sheet->colours + start;
+    size_t width = sheet->image[PIVOTDAWN_WIDTH], shown = 0, x, end;
+
+    for (x = 0; x < width; x = end) {
+        for (end = x + 1; end < width && colours[end] == colours[x];)
+            end++;
+        if (colours[x] == 0)
+            continue;
+        if (shown++ == 0)
+            printf("row %lu:", (unsigned long)row);
+        else
+            putchar(',');
+        put_stretch(x, end - 1, colours[x]);
+    }
+    if (shown > 0)
+        putchar('\n');
+}
+
+/* Paints the sheet band after band, and shows each row by `show`. */
+static int sweep(const struct sheet *sheet, void (*show)(const struct sheet *, size_t, size_t))
+{
+    size_t height = sheet->image[PIVOTDAWN_HEIGHT], first, rows, row;
+
+    for (first = 0; first < height; first += rows) {
+        rows = height - first < BAND_ROWS ? height - first : BAND_ROWS;
+        if (paint_band(sheet, first, rows) != SHOWN)
+            return REFUSED;
+        for (row = 0; row < rows; row++)
+            show(sheet, pivotdawn_plane_words(sheet->image, row), first + row);
+    }
+    return SHOWN;
+}
+
+static int show_sheet(const struct sheet *sheet)
+{
+    int status = sweep(sheet, show_cells);
+
+    if (status == SHOWN && sheet->coloured) {
+        puts("colours");
+        status = sweep(sheet, show_colours);
+    }
+    if (fflush(stdout) != 0 || ferror(stdout))
+        return not_tried("standard output", "cannot be written");
+    return status;
+}
+
+/* ---- the program ---- */
+
+static int card(struct sheet *sheet)
+{
+    int status = read_image(sheet);
+
+    if (status == SHOWN)
+        status = check_image(sheet);
+    if (status == SHOWN)
+        status = lend_buffers(sheet);
+    if (status == SHOWN)
+        status = show_sheet(sheet);
+    free(sheet->image);
+    free(sheet->cells);
+    free(sheet->colours);
+    free(sheet->stamps);
+    free(sheet->scratch);
+    return status;
+}
+
+int main(int argc, char **argv)
+{
+    struct sheet sheet = {0};
+
+    sheet.coloured = argc == 3 && strcmp(argv[2], "--colour") == 0;
+    if (argc != 2 && !sheet.coloured) {
+        fputs("usage: card FILE [--colour]\n", stderr);
+        return NOT_TRIED;
+    }
+    sheet.path = argv[1];
+    return card(&sheet);
+}
