@@ -39,11 +39,12 @@
  * Threads and stack
  * -----------------
  * No state is kept, so calls may run at the same time in any number of threads, on one
- * image too, as long as no two share a buffer that is written. Nothing calls itself. All
- * arrays are of fixed size, so no image makes a call use more stack than another.
- * Leave it 32 KiB. Measured, by filling a thread's stack before a call and looking afterwards
- * how far down it was written, over 656 bands of various images, compiled for x86-64: the
- * check took 13,111 bytes, painting 17,927 and coloured painting 18,263.
+ * image too, as long as no two share a buffer that is written.
+ *
+ * Leave a call 32 KiB of stack. Nothing calls itself, and the arrays on the stack are of
+ * fixed size, whatever the image. Measured, by filling the stack of a thread, calling, and
+ * looking how far down it was written, over 656 bands of various images: check 13,111 bytes,
+ * painting 17,999, coloured painting 18,263; the most of x86-64 and Arm.
  */
 #ifndef PIVOTDAWN_H
 #define PIVOTDAWN_H
