@@ -101,9 +101,7 @@ static int read_bytes(const char *path, unsigned char *bytes, size_t *count)
         return not_tried(path, strerror(errno));
     errno = 0;
     *count = fread(bytes, 1, MOST_BYTES + 1, file);
-    failed = ferror(file) ? errno : 0;
-    if (ferror(file) && failed == 0)
-        failed = EIO;
+    failed = !ferror(file) ? 0 : errno != 0 ? errno : EIO;
     fclose(file);
     return failed != 0 ? not_tried(path, strerror(failed)) : SHOWN;
 }
@@ -201,24 +199,15 @@ static int paint_band(const struct sheet *sheet, size_t first, size_t rows)
 /* A character in UTF-8. One that would steer the terminal is replaced. */
 static void put_character(uint32_t point)
 {
+    static const uint32_t leads[] = {0, 0xC0, 0xE0, 0xF0};
+    int tail;
+
     if (point < 0x20 || (point >= 0x7F && point < 0xA0))
         point = 0xFFFD;
-    if (point < 0x80) {
-        putchar((int)point);
-        return;
-    }
-    if (point < 0x800) {
-        putchar((int)(0xC0 | point >> 6));
-    } else {
-        if (point < 0x10000) {
-            putchar((int)(0xE0 | point >> 12));
-        } else {
-            putchar((int)(0xF0 | point >> 18));
-            putchar((int)(0x80 | (point >> 12 & 0x3F)));
-        }
-        putchar((int)(0x80 | (point >> 6 & 0x3F)));
-    }
-    putchar((int)(0x80 | (point & 0x3F)));
+    tail = point < 0x80 ? 0 : point < 0x800 ? 1 : point < 0x10000 ? 2 : 3;
+    putchar((int)(leads[tail] | point >> 6 * tail));
+    while (tail-- > 0)
+        putchar((int)(0x80 | (point >> 6 * tail & 0x3F)));
 }
 
 enum { HAS_UP = 1, HAS_DOWN = 2, HAS_LEFT = 4, HAS_RIGHT = 8 };
