@@ -277,7 +277,40 @@ fn step(
     }
 }
 
-// A proved loop has to end, and nothing says that a stream does: the turns are counted down from a number that no stream uses up.
+// Answers the requests of the stream. A proved loop has to end, and nothing says that a stream does: the turns are counted down from a number that no stream uses up.
+fn answer_all(
+    bytes: &mut [u8],
+    image: &mut [u32],
+    cells: &mut [u32],
+    colours: &mut [u32],
+    stamps: &mut [u32],
+    scratch: &mut [u32],
+)
+    requires { ⌜ Buffers (now bytes) (now image) (now cells) (now colours) (now stamps) (now scratch) ⌝ }
+{
+    let mut turns = u64::MAX;
+    let mut more = true;
+    while more {
+        if turns == 0 {
+            return;
+        }
+        more = step(bytes, image, cells, colours, stamps, scratch);
+        turns -= 1;
+    }
+}
+
+// The buffers as slices. An array is handed on whole and becomes a slice here, where its length is known from its type: the prover would count a local array's elements.
+fn lend_all(
+    bytes: &mut [u8; 4 * MOST_WORDS],
+    image: &mut [u32; MOST_WORDS],
+    cells: &mut [u32; MOST_LENT],
+    colours: &mut [u32; MOST_LENT],
+    stamps: &mut [u32; MOST_LENT],
+    scratch: &mut [u32; MOST_LENT],
+) {
+    answer_all(bytes, image, cells, colours, stamps, scratch);
+}
+
 fn main() {
     let mut bytes = [0u8; 4 * MOST_WORDS];
     let mut image = [0u32; MOST_WORDS];
@@ -285,20 +318,12 @@ fn main() {
     let mut colours = [0u32; MOST_LENT];
     let mut stamps = [0u32; MOST_LENT];
     let mut scratch = [0u32; MOST_LENT];
-    let mut turns = u64::MAX;
-    let mut more = true;
-    while more {
-        if turns == 0 {
-            return;
-        }
-        more = step(
-            &mut bytes,
-            &mut image,
-            &mut cells,
-            &mut colours,
-            &mut stamps,
-            &mut scratch,
-        );
-        turns -= 1;
-    }
+    lend_all(
+        &mut bytes,
+        &mut image,
+        &mut cells,
+        &mut colours,
+        &mut stamps,
+        &mut scratch,
+    );
 }
