@@ -81,17 +81,28 @@ fn step(bytes: &mut [u8], words: &mut [u32]) -> bool
     }
 }
 
-// A proved loop has to end, and nothing says that a stream does: the turns are counted down from a number that no stream uses up.
-fn main() {
-    let mut bytes = [0u8; 524288];
-    let mut words = [0u32; 131072];
+// Answers the images of the stream. A proved loop has to end, and nothing says that a stream does: the turns are counted down from a number that no stream uses up.
+fn answer_all(bytes: &mut [u8], words: &mut [u32])
+    requires { ⌜ (length (now bytes) ≡ 524288) × (length (now words) ≡ 131072) ⌝ }
+{
     let mut turns = u64::MAX;
     let mut more = true;
     while more {
         if turns == 0 {
             return;
         }
-        more = step(&mut bytes, &mut words);
+        more = step(bytes, words);
         turns -= 1;
     }
+}
+
+// The buffers as slices. An array is handed on whole and becomes a slice here, where its length is known from its type: the prover would count a local array's elements.
+fn lend_all(bytes: &mut [u8; 524288], words: &mut [u32; 131072]) {
+    answer_all(bytes, words);
+}
+
+fn main() {
+    let mut bytes = [0u8; 524288];
+    let mut words = [0u32; 131072];
+    lend_all(&mut bytes, &mut words);
 }
