@@ -17,7 +17,7 @@ const DEFAULT_SEED: u64 = 2_026;
 const IN_ONE_STREAM: usize = 2_000;
 
 /// Differences that are shown; all are counted.
-const SHOWN: usize = 5;
+pub const SHOWN: usize = 5;
 
 /// An image of more words is not shown in hex.
 const SHOWN_WORDS: usize = 16_384;
@@ -28,7 +28,7 @@ const SHOWN_LINE: usize = 120;
 const SHOWN_FROM_DIFFERENCE: usize = 8;
 
 /// So often a comparison says how far it is.
-const PROGRESS: Duration = Duration::from_secs(10);
+pub const PROGRESS: Duration = Duration::from_secs(10);
 
 pub fn count_and_seed(options: &[String]) -> Option<(usize, u64)> {
     match options {
@@ -98,11 +98,8 @@ impl Asked {
         let words = self.bytes.chunks_exact(4);
         let words = words.map(|w| u32::from_be_bytes([w[0], w[1], w[2], w[3]]));
         let length = words.clone().next().unwrap_or(0) as usize;
-        let words = words.skip(self.head_words);
-        match length {
-            0..=SHOWN_WORDS => hex_row(&words.take(length).collect::<Vec<u32>>()),
-            length => format!("{length} words"),
-        }
+        let words = words.skip(self.head_words).take(length);
+        shown_image(&words.collect::<Vec<u32>>())
     }
 
     /// The first line in which an answer differs, as it is expected and as it is.
@@ -113,6 +110,14 @@ impl Asked {
         let mut words = expected.split(' ').zip(answered.split(' '));
         let alike = words.position(|(expected, answered)| expected != answered);
         Some([expected, answered].map(|line| shown_line(line, alike.unwrap_or(0))))
+    }
+}
+
+/// An image in hex, unless it is long.
+pub fn shown_image(words: &[u32]) -> String {
+    match words.len() {
+        0..=SHOWN_WORDS => hex_row(words),
+        length => format!("{length} words"),
     }
 }
 

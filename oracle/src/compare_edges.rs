@@ -9,7 +9,8 @@ use crate::layout::{
     CORNER, DIRECT, EDGES, END_MARKER_BIT, MULTI_SEGMENT, ORTHOGONAL, PATH_NAMES, POINTS,
     REVERSED_BIT, SIDE_CHANNEL, SPLINE, START_MARKER_BIT, X_FLOW_BIT,
 };
-use crate::paintlines::{Request, Subject, PROGRAM};
+use crate::paintlines::{asked, Form, PROGRAM};
+use crate::requests::{Request, Subject};
 use crate::slow_check::slow_check;
 use crate::wrong_use;
 use std::cell::Cell;
@@ -227,12 +228,11 @@ fn both_ways(words: Vec<u32>, path: u32) -> Asked {
         let request = Request {
             subject: Rc::clone(&subject),
             coloured,
-            short: true,
             first: 0,
             rows: u64::from(HEIGHT),
             lent,
         };
-        request.asked(PATH_NAMES[path as usize])
+        asked(request, Form::Short, PATH_NAMES[path as usize])
     });
     let heading = path as usize;
     Asked {

@@ -6,15 +6,21 @@
 extern crate alloc;
 
 mod asking;
+#[cfg(original)]
+mod band_requests;
 #[cfg(product)]
 mod bench;
 #[cfg(original)]
 mod cases;
+#[cfg(product)]
+mod compare;
 mod compare_check;
 #[cfg(original)]
 mod compare_edges;
 #[cfg(original)]
 mod compare_paint;
+#[cfg(product)]
+mod coverage;
 mod dice;
 mod draft;
 #[cfg(original)]
@@ -32,9 +38,15 @@ mod paint_cases;
 #[cfg(original)]
 mod paintlines;
 #[cfg(product)]
+mod pivotdawn;
+#[cfg(original)]
+mod requests;
+#[cfg(product)]
 mod sheets;
 mod slow_check;
 mod stored;
+#[cfg(product)]
+mod structured;
 #[cfg(original)]
 mod stubs;
 #[cfg(original)]
@@ -63,6 +75,8 @@ fn main() -> ExitCode {
         "bench" => bench::command(rest),
         #[cfg(product)]
         "bench-once" => bench::once(rest),
+        #[cfg(product)]
+        "compare" => compare::command(rest),
         "limits" => limits::command(rest),
         "compare-check" => compare_check::command(rest),
         #[cfg(original)]

@@ -78,13 +78,14 @@ pub struct Sheet {
 /// Paints the whole sheet in bands of `band` rows, the last one maybe shorter.
 pub fn paint(words: &[u32], coloured: bool, band: usize) -> Result<Sheet, Unreadable> {
     let image = Image::read(words)?;
+    Ok(Planned::of(&image)?.sheet(&image, coloured, band))
+}
+
+/// The whole sheet as one band, plain and coloured.
+pub fn paint_both(words: &[u32]) -> Result<[Sheet; 2], Unreadable> {
+    let image = Image::read(words)?;
     let planned = Planned::of(&image)?;
-    let mut scratch = planned.scratch(coloured, band);
-    let mut sheet = Sheet::empty(&image, coloured);
-    for (first, rows) in planned.bands(band) {
-        sheet.take_band(&planned, &mut scratch, first, rows);
-    }
-    Ok(sheet)
+    Ok([false, true].map(|coloured| planned.sheet(&image, coloured, usize::MAX)))
 }
 
 /// An image as the original's painter is handed it: all that stands when the
@@ -105,6 +106,15 @@ impl<'i> Planned<'i> {
             view: ImageView::of(image),
             plan: plan_of(image),
         })
+    }
+
+    fn sheet(&self, image: &Image, coloured: bool, band: usize) -> Sheet {
+        let mut scratch = self.scratch(coloured, band);
+        let mut sheet = Sheet::empty(image, coloured);
+        for (first, rows) in self.bands(band) {
+            sheet.take_band(self, &mut scratch, first, rows);
+        }
+        sheet
     }
 
     /// What the original keeps from band to band.

@@ -14,7 +14,8 @@ mod together;
 use crate::cases::{self, Asked};
 use crate::draft::Draft;
 use crate::generate::accepted;
-use crate::paintlines::{Request, Subject, LAST_CODE};
+use crate::paintlines::{answer, bytes, Form};
+use crate::requests::{Request, Subject, LAST_CODE};
 use crate::stored::{self, Stored};
 use crate::wrong_use;
 use std::io::{self, Write as _};
@@ -27,6 +28,7 @@ const WEIGHTS: [(u32, &str); 3] = [(1, "Dashed"), (2, "Light"), (3, "Double")];
 struct Case {
     name: String,
     request: Request,
+    form: Form,
     /// Code and place.
     stated: (u32, u32),
 }
@@ -38,12 +40,21 @@ struct Cases {
 
 impl Cases {
     fn ask(&mut self, name: impl Into<String>, request: Request, stated: (u32, u32)) {
-        let name = name.into();
+        let (name, form) = (name.into(), Form::Long);
         self.list.push(Case {
             name,
             request,
+            form,
             stated,
         });
+    }
+
+    /// A band that is painted, in the short form.
+    fn ask_short(&mut self, name: impl Into<String>, request: Request) {
+        self.ask(name, request, (0, 0));
+        if let Some(last) = self.list.last_mut() {
+            last.form = Form::Short;
+        }
     }
 
     /// The whole sheet, coloured, listed exactly, each buffer a word longer than
@@ -59,7 +70,7 @@ fn subject_of(draft: &Draft) -> Rc<Subject> {
     Rc::new(Subject::painted(accepted(draft)))
 }
 
-/// All rows, in the long form.
+/// All rows.
 fn whole(subject: Rc<Subject>, coloured: bool) -> Request {
     let rows = subject.height();
     band(subject, coloured, (0, rows))
@@ -71,7 +82,6 @@ fn band(subject: Rc<Subject>, coloured: bool, (first, rows): (usize, usize)) -> 
     Request {
         subject,
         coloured,
-        short: false,
         first: first as u64,
         rows: rows as u64,
         lent,
@@ -144,11 +154,12 @@ fn stored_of(cases: &[Case]) -> Stored {
     for case in cases {
         let (code, place) = case.stated;
         let told = format!("{code} {place}");
-        let request = &case.request;
-        stored.take(&case.name, &request.bytes(), &request.answer(), &told);
+        let (request, form) = (&case.request, case.form);
+        let (asked, answered) = (bytes(request, form), answer(request, form));
+        stored.take(&case.name, &asked, &answered, &told);
     }
     let name = "a request that breaks off inside the last word of its image";
-    let mut broken_off = cases[0].request.bytes();
+    let mut broken_off = bytes(&cases[0].request, Form::Long);
     broken_off.pop();
     stored.take(name, &broken_off, "unread", "unread");
     stored

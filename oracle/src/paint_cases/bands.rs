@@ -8,7 +8,7 @@ use crate::layout::{
     path_flags, BOXED, CORNER, EDGES, END_MARKER_BIT, LABEL_PRESENT_BIT, MULTI_SEGMENT,
     PLACED_LABELS, SIDE_CHANNEL, SIMPLE, START_MARKER_BIT,
 };
-use crate::paintlines::Request;
+use crate::requests::Request;
 use std::rc::Rc;
 
 pub fn add(cases: &mut Cases) {
@@ -97,11 +97,8 @@ fn in_the_short_form(cases: &mut Cases) {
     for (name, draft) in [("nine rows", medley()), ("1,024 columns", wide)] {
         let subject = subject_of(&draft);
         for (kind, coloured) in [("plain", false), ("coloured", true)] {
-            let request = Request {
-                short: true,
-                ..whole(Rc::clone(&subject), coloured)
-            };
-            cases.ask(format!("{name} in the short form, {kind}"), request, (0, 0));
+            let request = whole(Rc::clone(&subject), coloured);
+            cases.ask_short(format!("{name} in the short form, {kind}"), request);
         }
     }
 }

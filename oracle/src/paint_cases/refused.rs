@@ -3,7 +3,7 @@
 use super::bands::medley;
 use super::{band, subject_of, Cases};
 use crate::limits::broken_for;
-use crate::paintlines::{Request, Subject, CELLS, COLOURS, SCRATCH, STAMPS};
+use crate::requests::{Request, Subject, CELLS, COLOURS, SCRATCH, STAMPS};
 use std::rc::Rc;
 
 pub fn add(cases: &mut Cases) {
@@ -28,7 +28,6 @@ fn of_the_check(cases: &mut Cases) {
                 let request = Request {
                     subject: Rc::clone(&subject),
                     coloured,
-                    short: false,
                     first: rows / 2,
                     rows,
                     lent,
@@ -64,7 +63,6 @@ fn beyond_the_sheet(cases: &mut Cases) {
             let request = Request {
                 subject: Rc::clone(&subject),
                 coloured: first % 2 == 1,
-                short: false,
                 first,
                 rows,
                 lent,

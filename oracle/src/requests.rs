@@ -1,0 +1,172 @@
+//! Bands of an image that painting is asked for, and what must be answered: code and
+//! place, and every word of each lent buffer. Refusals 1 to 10 come from the slow
+//! check, 11 and 12 and all that is not painted from document 01's own words, cells
+//! and colours from the original. Whoever asks, the program or the library, is held
+//! against this.
+
+use crate::layout::room;
+use crate::paint::{paint_both, Sheet};
+use crate::slow_check::{slow_check, Answer};
+use std::rc::Rc;
+
+/// The last code of painting.
+pub const LAST_CODE: u32 = 12;
+
+/// The buffers by their places in refusal 12, less one.
+pub const CELLS: usize = 0;
+pub const COLOURS: usize = 1;
+pub const STAMPS: usize = 2;
+pub const SCRATCH: usize = 3;
+pub const BUFFER_NAMES: [&str; 4] = ["cells", "colours", "stamps", "scratch"];
+
+/// An image, and what is said of it.
+pub struct Subject {
+    pub words: Vec<u32>,
+    /// The slow check's answer.
+    pub answer: Answer,
+    /// The original's pictures of all rows, plain and coloured.
+    pictures: Option<[Sheet; 2]>,
+}
+
+impl Subject {
+    /// Painted by the original where the slow check accepts it.
+    pub fn painted(words: Vec<u32>) -> Subject {
+        let mut subject = Subject::checked(words);
+        subject.paint();
+        subject
+    }
+
+    /// Not painted: to be asked for no rows at all, or for a refusal.
+    pub fn checked(words: Vec<u32>) -> Subject {
+        let answer = slow_check(&words);
+        Subject {
+            words,
+            answer,
+            pictures: None,
+        }
+    }
+
+    /// Has the original paint it, if it is accepted.
+    pub fn paint(&mut self) {
+        if self.is_accepted() {
+            let pictures = paint_both(&self.words);
+            let pictures = pictures.unwrap_or_else(|why| panic!("an accepted image: {why}"));
+            self.pictures = Some(pictures);
+        }
+    }
+
+    pub fn is_accepted(&self) -> bool {
+        self.answer.code == 0
+    }
+
+    /// Whether its rows can be asked for.
+    pub fn is_painted(&self) -> bool {
+        self.pictures.is_some()
+    }
+
+    /// A word of the header; 0 where there is none.
+    fn head(&self, place: usize) -> usize {
+        self.words.get(place).copied().unwrap_or(0) as usize
+    }
+
+    pub fn width(&self) -> usize {
+        self.head(0)
+    }
+
+    pub fn height(&self) -> usize {
+        self.head(1)
+    }
+
+    /// What a band of so many rows wants of each buffer.
+    pub fn room(&self, rows: usize) -> [usize; 4] {
+        room(&self.words, rows)
+    }
+
+    /// The cells of the whole sheet; none where it is not painted.
+    #[cfg(product)]
+    pub fn cells(&self) -> &[u32] {
+        self.pictures.as_ref().map_or(&[], |both| &both[0].cells)
+    }
+}
+
+/// A band that is asked for, and the words that are lent for it.
+#[derive(Clone)]
+pub struct Request {
+    pub subject: Rc<Subject>,
+    pub coloured: bool,
+    pub first: u64,
+    pub rows: u64,
+    /// Words lent of each buffer. A plain request says four numbers too, and lends
+    /// cells and scratch alone.
+    pub lent: [usize; 4],
+}
+
+impl Request {
+    /// "Plain paint takes cells and scratch; coloured paint also colours and
+    /// stamps."
+    pub fn buffers(&self) -> &'static [usize] {
+        match self.coloured {
+            true => &[CELLS, COLOURS, STAMPS, SCRATCH],
+            false => &[CELLS, SCRATCH],
+        }
+    }
+
+    /// Code and place; 0 and 0 where the band is painted.
+    pub fn refusal(&self) -> (u32, u32) {
+        if !self.subject.is_accepted() {
+            return (self.subject.answer.code, self.subject.answer.place);
+        }
+        // "first band row + rows > height", the true sum.
+        if u128::from(self.first) + u128::from(self.rows) > self.subject.height() as u128 {
+            return (11, 0);
+        }
+        let room = self.subject.room(self.rows as usize);
+        let is_short = |buffer: &&usize| self.lent[**buffer] < room[**buffer];
+        match self.buffers().iter().find(is_short) {
+            Some(buffer) => (12, *buffer as u32 + 1),
+            None => (0, 0),
+        }
+    }
+
+    /// What a lent buffer holds before the call.
+    pub fn words_before(&self, buffer: usize) -> impl Iterator<Item = u32> {
+        let start = 0x5000_0000 + 0x100_0000 * (buffer as u32 + 1);
+        (0..self.lent[buffer] as u32).map(move |place| start + place)
+    }
+
+    /// What it must hold after the call.
+    pub fn words_after(&self, buffer: usize) -> Vec<u32> {
+        let mut words: Vec<u32> = self.words_before(buffer).collect();
+        if self.refusal().0 == 0 {
+            self.fill_needed(buffer, &mut words);
+        }
+        words
+    }
+
+    /// "the needed part of cells and colours holds the band, of stamps and scratch
+    /// holds zeros"
+    fn fill_needed(&self, buffer: usize, words: &mut [u32]) {
+        let needed = &mut words[..self.subject.room(self.rows as usize)[buffer]];
+        if buffer == STAMPS || buffer == SCRATCH || needed.is_empty() {
+            return needed.fill(0);
+        }
+        let Some([plain, coloured]) = &self.subject.pictures else {
+            panic!("rows of an image that was not painted");
+        };
+        let from = self.first as usize * self.subject.width();
+        let plane = match (buffer, self.coloured) {
+            (CELLS, false) => &plain.cells,
+            (CELLS, true) => &coloured.cells,
+            _ => &coloured.colours,
+        };
+        needed.copy_from_slice(&plane[from..][..needed.len()]);
+    }
+}
+
+impl std::fmt::Display for Request {
+    fn fmt(&self, f: &mut std::fmt::Formatter<'_>) -> std::fmt::Result {
+        let kind = if self.coloured { "coloured" } else { "plain" };
+        let (first, rows, lent) = (self.first, self.rows, self.lent);
+        write!(f, "{kind}, {rows} rows from {first}, lent {lent:?}")
+    }
+}
