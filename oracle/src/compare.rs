@@ -3,7 +3,7 @@
 //! out; what an image is and what is asked of it follow from its number and the seed.
 
 use crate::asking::{count_and_seed, shown_image, PROGRESS, SHOWN};
-use crate::band_requests::{Asking, Made};
+use crate::band_requests::Asking;
 use crate::coverage::Coverage;
 use crate::full::full_images;
 use crate::generate::{code_targets, damage, random_image};

@@ -347,7 +347,7 @@ impl Plan {
 impl Plan {
     /// Many sources and one target, or one source and many targets.
     fn fan(&mut self, into_one: bool) {
-        let many = self.some(3, 14);
+        let many = self.some(3, 24);
         let [first, second] = if into_one { [many, 1] } else { [1, many] };
         let start = self.dice.below(4);
         let (sources, after) = self.layer(start, first);
@@ -369,7 +369,7 @@ impl Plan {
     /// One station after the other, with edges that pass over some of them, there and
     /// back.
     fn long_chain(&mut self) {
-        let count = self.some(4, 12);
+        let count = self.some(4, 20);
         let mut along = self.dice.below(3);
         let mut chain: Vec<Station> = Vec::new();
         for _ in 0..count {
@@ -394,7 +394,8 @@ impl Plan {
 
     /// Every station of a layer to every one of the next, or each to the one opposite.
     fn dense_crossings(&mut self) {
-        let breadth = self.some(3, 6);
+        // Three layers of sixteen stations have half as many edges as there may be.
+        let breadth = self.some(3, 8).min(16);
         let every = self.dice.one_in(2);
         let mut along = self.dice.below(3);
         let mut before: Vec<Station> = Vec::new();
@@ -414,7 +415,7 @@ impl Plan {
 
     /// Edges along both flows across one another, through groups.
     fn lattice(&mut self) {
-        let (lines, pitch) = (self.some(3, 9), 2 + self.dice.below(3));
+        let (lines, pitch) = (self.some(3, 16), 2 + self.dice.below(3));
         let length = lines * pitch + 2;
         self.free_across = length;
         for flow in [false, true] {
@@ -450,7 +451,7 @@ impl Plan {
         let mut stations = Vec::new();
         let mut across = 2;
         let mut longest = 0;
-        for _ in 0..self.some(2, 4) {
+        for _ in 0..self.some(2, 6) {
             let mut along = 3;
             let mut end = across;
             for _ in 0..2 + self.dice.below(3) {
