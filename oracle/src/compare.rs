@@ -7,7 +7,9 @@ use crate::band_requests::Asking;
 use crate::coverage::Coverage;
 use crate::full::full_images;
 use crate::generate::{code_targets, damage, random_image};
-use crate::pivotdawn::{check_into, paint_coloured_into, paint_into, Planes};
+use crate::pivotdawn::{
+    check, check_into, paint, paint_coloured, paint_coloured_into, paint_into, Planes,
+};
 use crate::requests::{Request, Subject, BUFFER_NAMES, LAST_CODE};
 use crate::structured::structured_image;
 use crate::wrong_use;
@@ -193,7 +195,7 @@ impl<'s> Library<'s> {
     /// What differs in the check's answer, told in so many words.
     fn check_differs(&mut self, subject: &Subject, answer_words: usize) -> Option<String> {
         self.answer = vec![UNTOLD; answer_words];
-        let code = check_into(&subject.words, &mut self.answer);
+        let code = self.check(&subject.words);
         let code = self.spoilt(code);
         let expected = subject.answer;
         let told = [u64::from(expected.place), u64::from(expected.runs)];
@@ -217,20 +219,37 @@ impl<'s> Library<'s> {
         })
     }
 
+    /// Where as many words are lent as the answer has, by the call that answers them.
+    fn check(&mut self, words: &[u32]) -> u32 {
+        let [place, runs] = &mut self.answer[..] else {
+            return check_into(words, &mut self.answer);
+        };
+        let answer = check(words);
+        (*place, *runs) = (answer.place, answer.runs);
+        answer.code
+    }
+
+    /// The same.
     fn paint(&mut self, request: &Request) -> u32 {
         let [cells, colours, stamps, scratch] = &mut self.lent;
-        let (words, answer) = (&request.subject.words, &mut self.answer);
+        let (words, answer) = (&request.subject.words, &mut self.answer[..]);
         let (first, rows) = (request.first as usize, request.rows as usize);
-        if !request.coloured {
-            return paint_into(words, first, rows, cells, scratch, answer);
-        }
         let planes = Planes {
             cells,
             colours,
             stamps,
             scratch,
         };
-        paint_coloured_into(words, first, rows, planes, answer)
+        let outcome = match (request.coloured, answer.len()) {
+            (false, 1) => paint(words, first, rows, planes.cells, planes.scratch),
+            (true, 1) => paint_coloured(words, first, rows, planes),
+            (false, _) => {
+                return paint_into(words, first, rows, planes.cells, planes.scratch, answer)
+            }
+            (true, _) => return paint_coloured_into(words, first, rows, planes, answer),
+        };
+        answer[0] = outcome.place;
+        outcome.code
     }
 
     /// `told` are the answer's first words, as far as there is room.

@@ -1,14 +1,15 @@
 //! The slow check and the original compositor, asked by images of document 01's
 //! format. README.md says what each command answers. Compiled without
 //! `original`, it leaves out all that needs the original's text; without
-//! `product`, what calls the product's library.
+//! `product`, what calls the product's library; without `timed`, what is linked to
+//! time the check and the painting apart.
 
 extern crate alloc;
 
 mod asking;
 #[cfg(original)]
 mod band_requests;
-#[cfg(product)]
+#[cfg(timed)]
 mod bench;
 #[cfg(original)]
 mod cases;
@@ -19,7 +20,7 @@ mod compare_check;
 mod compare_edges;
 #[cfg(original)]
 mod compare_paint;
-#[cfg(product)]
+#[cfg(original)]
 mod coverage;
 mod dice;
 mod draft;
@@ -41,7 +42,7 @@ mod paintlines;
 mod pivotdawn;
 #[cfg(original)]
 mod requests;
-#[cfg(product)]
+#[cfg(timed)]
 mod sheets;
 mod slow_check;
 mod stored;
@@ -71,9 +72,9 @@ fn main() -> ExitCode {
         "paint-cases" => paint_cases::command(rest),
         #[cfg(original)]
         "vectors" => vectors::command(rest),
-        #[cfg(product)]
+        #[cfg(timed)]
         "bench" => bench::command(rest),
-        #[cfg(product)]
+        #[cfg(timed)]
         "bench-once" => bench::once(rest),
         #[cfg(product)]
         "compare" => compare::command(rest),

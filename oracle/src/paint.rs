@@ -132,7 +132,7 @@ impl<'i> Planned<'i> {
     }
 
     /// The cells of the largest band.
-    #[cfg(product)]
+    #[cfg(timed)]
     pub fn room(&self, band: usize) -> usize {
         self.plan.width() * band.min(self.plan.height())
     }

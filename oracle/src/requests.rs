@@ -83,7 +83,6 @@ impl Subject {
     }
 
     /// The cells of the whole sheet; none where it is not painted.
-    #[cfg(product)]
     pub fn cells(&self) -> &[u32] {
         self.pictures.as_ref().map_or(&[], |both| &both[0].cells)
     }
