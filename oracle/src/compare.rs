@@ -13,6 +13,7 @@ use crate::pivotdawn::{
 use crate::requests::{Request, Subject, BUFFER_NAMES, LAST_CODE};
 use crate::structured::structured_image;
 use crate::wrong_use;
+use std::collections::BTreeMap;
 use std::io::{self, Write as _};
 use std::process::ExitCode;
 use std::sync::atomic::{AtomicU64, Ordering};
@@ -356,6 +357,9 @@ struct Tally {
     images: [u64; KIND_NAMES.len()],
     checks_by_code: [u64; 11],
     requests_by_code: [u64; LAST_CODE as usize + 1],
+    /// Images by their maker's words, and requests by how they were made.
+    makers: BTreeMap<String, u64>,
+    makings: BTreeMap<&'static str, u64>,
     plain: u64,
     differences: u64,
     shown: Vec<Difference>,
@@ -368,6 +372,8 @@ impl Tally {
             images: [0; KIND_NAMES.len()],
             checks_by_code: [0; 11],
             requests_by_code: [0; LAST_CODE as usize + 1],
+            makers: BTreeMap::new(),
+            makings: BTreeMap::new(),
             plain: 0,
             differences: 0,
             shown: Vec::new(),
@@ -385,6 +391,12 @@ impl Tally {
             sum.iter_mut()
                 .zip(more)
                 .for_each(|(sum, more)| *sum += more);
+        }
+        for (maker, more) in other.makers {
+            *self.makers.entry(maker).or_default() += more;
+        }
+        for (making, more) in other.makings {
+            *self.makings.entry(making).or_default() += more;
         }
         self.plain += other.plain;
         self.differences += other.differences;
@@ -421,6 +433,9 @@ impl Tally {
         } = asking;
         let made = &specimen.made;
         self.images[specimen.kind as usize] += 1;
+        if specimen.kind != Kind::FullTables {
+            *self.makers.entry(made.clone()).or_default() += 1;
+        }
         self.checks_by_code[subject.answer.code as usize] += 1;
         if specimen
             .meant
@@ -434,6 +449,7 @@ impl Tally {
         }
         for (nth, (how, request)) in requests.into_iter().enumerate() {
             self.requests_by_code[request.refusal().0 as usize] += 1;
+            *self.makings.entry(how).or_default() += 1;
             self.plain += u64::from(!request.coloured);
             let lent_words = answer_words(number.wrapping_add(nth as u64), 1);
             if let Some(what) = library.paint_differs(&request, lent_words) {
@@ -534,8 +550,12 @@ impl Tally {
         }
         if lists_coverage {
             self.coverage.write(&mut out)?;
-            write_codes(&mut out, "images by the check's code", &self.checks_by_code)?;
-            write_codes(&mut out, "requests by code", &self.requests_by_code)?;
+            write_counts(&mut out, "images", self.makers.iter())?;
+            let codes = self.checks_by_code.iter().enumerate();
+            write_counts(&mut out, "images by the check's code", codes)?;
+            write_counts(&mut out, "requests", self.makings.iter())?;
+            let codes = self.requests_by_code.iter().enumerate();
+            write_counts(&mut out, "requests by code", codes)?;
             let coloured = self.requests() - self.plain;
             writeln!(out, "requests: plain {}, coloured {coloured}", self.plain)?;
         }
@@ -558,10 +578,11 @@ impl Tally {
     }
 }
 
-fn write_codes(out: &mut impl io::Write, what: &str, counts: &[u64]) -> io::Result<()> {
-    let counts = counts.iter().enumerate();
-    let counts: Vec<String> = counts
-        .map(|(code, count)| format!("{code}: {count}"))
-        .collect();
+fn write_counts<'c, N: std::fmt::Display>(
+    out: &mut impl io::Write,
+    what: &str,
+    counts: impl Iterator<Item = (N, &'c u64)>,
+) -> io::Result<()> {
+    let counts: Vec<String> = counts.map(|(name, n)| format!("{name}: {n}")).collect();
     writeln!(out, "{what}: {}", counts.join(", "))
 }

@@ -2,6 +2,7 @@
 //! images it stood.
 
 use crate::image::{Image, NodeLook, Path, Span, Weight};
+#[cfg(product)]
 use std::io::{self, Write};
 
 /// On Y flow and on X flow, by the numbers of the paths.
@@ -84,6 +85,7 @@ impl Coverage {
         }
     }
 
+    #[cfg(product)]
     pub fn add(&mut self, other: &Coverage) {
         self.images += other.images;
         for ((_, count), (_, more)) in self.counts.iter_mut().zip(&other.counts) {
@@ -97,6 +99,7 @@ impl Coverage {
         missing.map(|(name, _)| *name).collect()
     }
 
+    #[cfg(product)]
     pub fn write(&self, out: &mut impl Write) -> io::Result<()> {
         writeln!(out, "painted images: {}, of which with", self.images)?;
         for (name, count) in &self.counts {

@@ -12,12 +12,14 @@ mod things;
 mod together;
 
 use crate::cases::{self, Asked};
+use crate::coverage::Coverage;
 use crate::draft::Draft;
 use crate::generate::accepted;
 use crate::paintlines::{answer, bytes, Form};
 use crate::requests::{Request, Subject, LAST_CODE};
 use crate::stored::{self, Stored};
 use crate::wrong_use;
+use std::collections::BTreeSet;
 use std::io::{self, Write as _};
 use std::process::ExitCode;
 use std::rc::Rc;
@@ -123,7 +125,8 @@ pub fn command(options: &[String]) -> io::Result<ExitCode> {
         return Ok(wrong_use("paint-cases [--write]"));
     };
     let cases = all_cases();
-    if stored::write_faults(&faults_of(&cases))? {
+    let faults = [faults_of(&cases), gaps_of(&cases)].concat();
+    if stored::write_faults(&faults)? {
         return Ok(ExitCode::FAILURE);
     }
     for code in 0..=LAST_CODE {
@@ -146,6 +149,32 @@ fn faults_of(cases: &[Case]) -> Vec<String> {
         }
     }
     faults
+}
+
+/// What no case paints, plain or coloured: each path on each flow, weight, look,
+/// policy and width, and bands of several heights.
+fn gaps_of(cases: &[Case]) -> Vec<String> {
+    let mut gaps = Vec::new();
+    for (kind, coloured) in [("plain", false), ("coloured", true)] {
+        let painted = cases.iter().map(|case| &case.request);
+        let painted = painted.filter(|one| one.coloured == coloured && one.refusal().0 == 0);
+        let mut coverage = Coverage::none();
+        let mut heights = BTreeSet::new();
+        for Request { subject, rows, .. } in painted {
+            let (words, runs) = (&subject.words, subject.answer.runs);
+            heights.insert(*rows);
+            if *rows == subject.height() as u64 {
+                coverage.count(words, runs, subject.cells());
+            }
+        }
+        let features = coverage.missing().into_iter().map(str::to_string);
+        let bands = [0, 1, 3, 8]
+            .into_iter()
+            .filter(|rows| !heights.contains(rows));
+        let missing = features.chain(bands.map(|rows| format!("a band of {rows} rows")));
+        gaps.extend(missing.map(|what| format!("no case paints {kind}: {what}")));
+    }
+    gaps
 }
 
 /// The stream ends inside a request, so the last line is `unread`.
