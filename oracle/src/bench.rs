@@ -1,36 +1,44 @@
-//! `bench`: the product's check and painting, linked as C would link them, timed
-//! beside the original's painting of the same sheet; and the check timed on tables
-//! that grow.
+//! `bench`: the product beside the original on the same sheets, as Markdown tables: the
+//! check alone, the painting alone, and the public call, which does both. And how the
+//! cost of the check and of the painting grows, as tables and sheets double.
 
-#[cfg(painting)]
-mod painting;
+mod clock;
+mod counts;
+mod growth;
+mod product;
 
 use crate::engine::cell::Cell;
 use crate::image::Image;
+use crate::in_the_repository;
 use crate::paint::Planned;
-use crate::sheets::{growths, sheets, Growth, Step};
+use crate::sheets::{sheets, Sheet};
 use crate::stubs::color::CellColor;
-use crate::{image, in_the_repository, wrong_use};
+use crate::wrong_use;
+use clock::{least_seconds, Work};
 use std::fs;
 use std::hint::black_box;
 use std::io::{self, Write as _};
-use std::path::{Path, PathBuf};
-use std::process::{Command, ExitCode, Stdio};
-use std::time::Duration;
+use std::path::PathBuf;
+use std::process::{Command, ExitCode};
+
+pub use counts::once;
 
 /// Where the sheets are put as files, to be looked at or counted on.
 const FOLDER: &str = "target/oracle/sheets";
 
 const DEFAULT_ROUNDS: u32 = 40;
 
-/// One timing of a side takes at least so long: short calls are repeated.
-const SAMPLE: Duration = Duration::from_micros(1_000);
-
-/// The rows of a band on the handheld.
-const HANDHELD_ROWS: usize = 8;
-
 /// A sheet painted whole is one band of all its rows.
 const ALL_ROWS: usize = usize::MAX;
+
+/// The band heights: a row, the rows of a band on the handheld, and the whole sheet.
+const BANDS: [usize; 3] = [1, 8, ALL_ROWS];
+
+/// The original goes over all 8,192 legs of this sheet for each of 4,200 bands of one
+/// row: it would take minutes.
+fn is_left_out(sheet: &Sheet, band: usize) -> bool {
+    sheet.name == "short-legs" && band == 1
+}
 
 // ---- The sides -----------------------------------------------------------
 
@@ -41,43 +49,17 @@ struct Manner {
     band: usize,
 }
 
-/// Whose work is timed on a sheet.
+/// Whose work is measured on a sheet.
 #[derive(Clone, Copy)]
 enum Side {
-    /// The product's check of the image.
+    /// The product's check of the image, once.
     Check,
+    /// The product's painting of all bands, the check left out.
+    Painting(Manner),
+    /// The product's public call for each band, which checks and paints.
+    Public(Manner),
     /// The original's painting of all bands.
     Original(Manner),
-    /// The product's, the check left out.
-    #[cfg(painting)]
-    Product(Manner),
-}
-
-/// In the order of the columns that tell of the check.
-const CHECK_SIDES: [Side; 3] = [
-    Side::Check,
-    Side::Original(Manner {
-        coloured: false,
-        band: ALL_ROWS,
-    }),
-    Side::Original(Manner {
-        coloured: false,
-        band: HANDHELD_ROWS,
-    }),
-];
-
-/// Every side there is.
-fn all_sides() -> Vec<Side> {
-    let mut sides = vec![Side::Check];
-    for coloured in [false, true] {
-        for band in [1, HANDHELD_ROWS, ALL_ROWS] {
-            let manner = Manner { coloured, band };
-            sides.push(Side::Original(manner));
-            #[cfg(painting)]
-            sides.push(Side::Product(manner));
-        }
-    }
-    sides
 }
 
 impl Side {
@@ -85,18 +67,30 @@ impl Side {
     fn name(self) -> String {
         match self {
             Side::Check => "check".to_string(),
+            Side::Painting(manner) => format!("painting-{}", manner.name()),
+            Side::Public(manner) => format!("public-{}", manner.name()),
             Side::Original(manner) => format!("original-{}", manner.name()),
-            #[cfg(painting)]
-            Side::Product(manner) => format!("product-{}", manner.name()),
         }
+    }
+
+    fn by_name(name: &str) -> Option<Side> {
+        let mut sides = vec![Side::Check];
+        for coloured in [false, true] {
+            for band in BANDS {
+                let manner = Manner { coloured, band };
+                let kinds = [Side::Painting, Side::Public, Side::Original];
+                sides.extend(kinds.map(|kind| kind(manner)));
+            }
+        }
+        sides.into_iter().find(|side| side.name() == name)
     }
 
     fn work<'a>(self, words: &'a [u32], planned: &'a Planned<'a>) -> Work<'a> {
         match self {
             Side::Check => check_work(words),
+            Side::Painting(manner) => product::work(words, manner, product::Call::Painting),
+            Side::Public(manner) => product::work(words, manner, product::Call::Public),
             Side::Original(manner) => Box::new(original_work(planned, manner)),
-            #[cfg(painting)]
-            Side::Product(manner) => Box::new(painting::work(words, planned, manner)),
         }
     }
 }
@@ -109,9 +103,12 @@ impl Manner {
             band => format!("{kind}-{band}"),
         }
     }
-}
 
-type Work<'a> = Box<dyn FnMut() + 'a>;
+    /// How many bands a sheet has.
+    fn bands(self, words: &[u32]) -> usize {
+        (words[1] as usize).div_ceil(self.band).max(1)
+    }
+}
 
 /// Every band of the sheet. The canvas is emptied for each band, as the original
 /// does; its buffers and the scratch are made before the time begins.
@@ -131,160 +128,20 @@ fn original_work<'a>(planned: &'a Planned<'a>, manner: Manner) -> impl FnMut() +
 
 fn check_work(words: &[u32]) -> Work<'_> {
     Box::new(move || {
-        black_box(product_check(black_box(words)));
+        black_box(product::check(black_box(words)));
     })
 }
 
-// ---- The product's check -------------------------------------------------
-
-extern "C" {
-    /// A slice crosses as a pointer and a length.
-    #[cfg(painting)]
-    fn timed_check(image: *const u32, words: usize) -> u32;
-
-    #[cfg(not(painting))]
-    fn pivotdawn_check(
-        image: *const u32,
-        words: usize,
-        answer: *mut u64,
-        answer_words: usize,
-    ) -> u32;
+/// Calls with the image as the original is handed it. The sheets of `bench` can
+/// all be read.
+fn with_plan<T>(words: &[u32], call: impl FnOnce(&Planned<'_>) -> T) -> T {
+    let image = Image::read(words).unwrap_or_else(|why| panic!("a sheet of bench: {why}"));
+    let planned = Planned::of(&image).unwrap_or_else(|why| panic!("a sheet of bench: {why}"));
+    call(&planned)
 }
 
-/// The code.
-#[cfg(painting)]
-fn product_check(words: &[u32]) -> u32 {
-    // SAFETY: the slice is lent for the call alone, with its own length; the callee
-    // is proved to stay inside it.
-    unsafe { timed_check(words.as_ptr(), words.len()) }
-}
-
-/// The code, where the library has no painting yet.
-#[cfg(not(painting))]
-fn product_check(words: &[u32]) -> u32 {
-    let mut answer = [0; 2];
-    // SAFETY: both slices are lent for the call alone, with their own lengths;
-    // the callee is proved to stay inside them.
-    unsafe {
-        pivotdawn_check(
-            words.as_ptr(),
-            words.len(),
-            answer.as_mut_ptr(),
-            answer.len(),
-        )
-    }
-}
-
-// ---- Timing --------------------------------------------------------------
-
-extern "C" {
-    fn clock_gettime(clock: i32, seconds_and_nanoseconds: *mut [i64; 2]) -> i32;
-}
-
-/// The processor time of this thread: what else the machine does counts less
-/// than by a clock on the wall.
-fn processor_time() -> Duration {
-    const THREAD_CPUTIME: i32 = 3;
-    let mut time = [0; 2];
-    // SAFETY: the C library's own function, and room for what it writes on a
-    // Linux of 64 bits.
-    let answer = unsafe { clock_gettime(THREAD_CPUTIME, &mut time) };
-    assert_eq!(answer, 0, "no processor time to be had");
-    Duration::new(time[0] as u64, time[1] as u32)
-}
-
-/// Seconds for one call of each work: the least of the rounds. Each round times
-/// every work in turn, so that a busy moment strikes all alike.
-fn least_seconds(works: &mut [Work<'_>], rounds: u32) -> Vec<f64> {
-    let repeats: Vec<u32> = works.iter_mut().map(repeats_of).collect();
-    let mut least = vec![f64::INFINITY; works.len()];
-    for _ in 0..rounds {
-        for (nth, work) in works.iter_mut().enumerate() {
-            let took = time_of(work, repeats[nth]).as_secs_f64();
-            least[nth] = least[nth].min(took / f64::from(repeats[nth]));
-        }
-    }
-    least
-}
-
-fn time_of(work: &mut Work<'_>, repeats: u32) -> Duration {
-    let began = processor_time();
-    for _ in 0..repeats {
-        work();
-    }
-    processor_time() - began
-}
-
-/// How many calls make a sample. The calls that find it out warm the caches.
-fn repeats_of(work: &mut Work<'_>) -> u32 {
-    let mut repeats = 1;
-    while time_of(work, repeats) < SAMPLE {
-        repeats *= 2;
-    }
-    repeats
-}
-
-// ---- Counting instructions -----------------------------------------------
-
-/// Collecting begins and ends with this function: valgrind is told its name.
-#[no_mangle]
-#[inline(never)]
-pub fn pivotdawn_counted(work: &mut dyn FnMut()) {
-    work();
-}
-
-/// `bench-once SIDE FILE`: one call of a side on an image, for valgrind. A call
-/// before it does what only a first call has to do.
-pub fn once(options: &[String]) -> io::Result<ExitCode> {
-    let [name, file] = options else {
-        return Ok(wrong_use("bench-once SIDE FILE"));
-    };
-    let Some(side) = all_sides().into_iter().find(|side| side.name() == *name) else {
-        return Ok(wrong_use("bench-once: no such side"));
-    };
-    let words = image::words_of(&fs::read(file)?).unwrap_or_default();
-    with_plan(&words, |planned| {
-        let mut work = side.work(&words, planned);
-        work();
-        pivotdawn_counted(&mut work);
-    });
-    Ok(ExitCode::SUCCESS)
-}
-
-fn valgrind_is_at_hand() -> bool {
-    let asked = Command::new("valgrind")
-        .arg("--version")
-        .stdout(Stdio::null())
-        .status();
-    asked.is_ok_and(|status| status.success())
-}
-
-/// Has the C library fill and copy by loops: an instruction of x86-64 that does
-/// it by itself would be counted once for each byte.
-const NO_REPEATED_BYTES: &str = "glibc.cpu.x86_rep_stosb_threshold=1000000000:\
-     glibc.cpu.x86_rep_movsb_threshold=1000000000";
-
-/// Instructions of one call; none where valgrind does not tell.
-fn instructions(side: Side, file: &Path) -> Option<u64> {
-    let counts = file.with_extension("counts");
-    let mut out_file = std::ffi::OsString::from("--callgrind-out-file=");
-    out_file.push(&counts);
-    let ended = Command::new("valgrind")
-        .args(["--tool=callgrind", "--collect-atstart=no"])
-        .arg("--toggle-collect=pivotdawn_counted")
-        .arg(out_file)
-        .arg(std::env::current_exe().ok()?)
-        .args(["bench-once", &side.name()])
-        .arg(file)
-        .env("GLIBC_TUNABLES", NO_REPEATED_BYTES)
-        .stderr(Stdio::null())
-        .status();
-    if !ended.ok()?.success() {
-        return None;
-    }
-    let text = fs::read_to_string(&counts).ok()?;
-    let line = text.lines().find(|line| line.starts_with("totals:"))?;
-    line.split_whitespace().nth(1)?.parse().ok()
+fn assert_accepted(what: &str, words: &[u32]) {
+    assert_eq!(product::check(words), 0, "{what} is refused");
 }
 
 // ---- The command ---------------------------------------------------------
@@ -298,43 +155,164 @@ pub fn command(options: &[String]) -> io::Result<ExitCode> {
     let Some(rounds) = rounds else {
         return Ok(wrong_use("bench [ROUNDS], a number above 0"));
     };
-    let counting = valgrind_is_at_hand();
-    bench_sheets(rounds, counting)?;
-    #[cfg(painting)]
-    for coloured in [false, true] {
-        painting::bench(coloured, rounds, counting)?;
-    }
+    write_machine(rounds)?;
+    let counting = counts::valgrind_is_at_hand();
     if !counting {
         writeln!(
             io::stdout(),
-            "\nvalgrind is not at hand; no instructions were counted"
+            "\nvalgrind is not at hand: no instructions were counted, their columns hold `-`."
         )?;
     }
-    bench_growth(rounds)?;
+    let measured: Vec<Measured> = sheets()
+        .into_iter()
+        .map(|sheet| Measured::of(sheet, rounds, counting))
+        .collect::<io::Result<_>>()?;
+    write_checks(&measured)?;
+    for coloured in [false, true] {
+        write_painting(&measured, coloured)?;
+    }
+    growth::write(rounds)?;
     Ok(ExitCode::SUCCESS)
 }
 
-/// Calls with the image as the original is handed it. The sheets of `bench` can
-/// all be read.
-fn with_plan(words: &[u32], call: impl FnOnce(&Planned<'_>)) {
-    let image = Image::read(words).unwrap_or_else(|why| panic!("a sheet of bench: {why}"));
-    let planned = Planned::of(&image).unwrap_or_else(|why| panic!("a sheet of bench: {why}"));
-    call(&planned);
+fn write_machine(rounds: u32) -> io::Result<()> {
+    let said_by = |program: &str, option: &str| {
+        let said = Command::new(program).arg(option).output().ok();
+        let said = said.filter(|said| said.status.success());
+        said.map_or("not at hand".to_string(), |said| {
+            String::from_utf8_lossy(&said.stdout).trim().to_string()
+        })
+    };
+    let cores = std::thread::available_parallelism().map_or(1, usize::from);
+    let rows = [
+        ("processor", processor()),
+        ("kind", std::env::consts::ARCH.to_string()),
+        ("cores", cores.to_string()),
+        ("Rattle", said_by("rt", "version")),
+        ("Rust", said_by("rustc", "--version")),
+        ("valgrind", said_by("valgrind", "--version")),
+        ("rounds", rounds.to_string()),
+    ];
+    let mut out = io::stdout();
+    writeln!(out, "| machine | |\n|---|---|")?;
+    for (what, value) in rows {
+        writeln!(out, "| {what} | {value} |")?;
+    }
+    Ok(())
 }
 
-fn assert_accepted(what: &str, words: &[u32]) {
-    assert_eq!(product_check(words), 0, "{what} is refused");
+/// As the system names it.
+fn processor() -> String {
+    let listed = Command::new("lscpu").env("LC_ALL", "C").output();
+    let text = listed.map(|listed| String::from_utf8_lossy(&listed.stdout).into_owned());
+    let text = text.unwrap_or_default();
+    let name = text
+        .lines()
+        .find_map(|line| line.strip_prefix("Model name:"));
+    name.map_or("unknown".to_string(), |name| name.trim().to_string())
 }
 
-/// Seconds for one call of each side.
-fn seconds_of(sides: &[Side], words: &[u32], rounds: u32) -> Vec<f64> {
-    let mut seconds = Vec::new();
-    with_plan(words, |planned| {
-        let works = sides.iter().map(|side| side.work(words, planned));
-        let mut works: Vec<Work<'_>> = works.collect();
-        seconds = least_seconds(&mut works, rounds);
-    });
-    seconds
+// ---- The sheets ----------------------------------------------------------
+
+/// Seconds and instructions of one work.
+#[derive(Clone, Copy)]
+struct Cost {
+    seconds: f64,
+    instructions: Option<u64>,
+}
+
+/// What was measured in one manner.
+struct Line {
+    manner: Manner,
+    bands: usize,
+    painting: Cost,
+    public: Cost,
+    original: Cost,
+    /// Whether the instructions of the public call are a sum.
+    is_sum: bool,
+}
+
+struct Measured {
+    sheet: Sheet,
+    check: Cost,
+    lines: Vec<Line>,
+}
+
+/// Of more bands the instructions of the public call are not counted, they are the sum
+/// of its two parts': valgrind would take minutes.
+const MOST_COUNTED_BANDS: usize = 150;
+
+impl Measured {
+    fn of(sheet: Sheet, rounds: u32, counting: bool) -> io::Result<Measured> {
+        assert_accepted(sheet.name, &sheet.words);
+        let manners = manners_of(&sheet);
+        let mut sides = vec![Side::Check];
+        for manner in &manners {
+            product::assert_painted_alike(&sheet, *manner);
+            let kinds = [Side::Painting, Side::Public, Side::Original];
+            sides.extend(kinds.map(|kind| kind(*manner)));
+        }
+        let seconds = with_plan(&sheet.words, |planned| {
+            let works = sides.iter().map(|side| side.work(&sheet.words, planned));
+            least_seconds(&mut works.collect::<Vec<_>>(), rounds)
+        });
+        let counted = count(&sheet, &sides, counting)?;
+        let cost = |nth: usize| Cost {
+            seconds: seconds[nth],
+            instructions: counted[nth],
+        };
+        let check = cost(0);
+        let lines = manners.into_iter().enumerate().map(|(nth, manner)| {
+            let [painting, public, original] = [1, 2, 3].map(|side| cost(3 * nth + side));
+            let bands = manner.bands(&sheet.words);
+            Line {
+                manner,
+                bands,
+                painting,
+                public: with_sum(public, check, painting, bands),
+                original,
+                is_sum: public.instructions.is_none(),
+            }
+        });
+        let lines = lines.collect();
+        Ok(Measured {
+            sheet,
+            check,
+            lines,
+        })
+    }
+}
+
+fn manners_of(sheet: &Sheet) -> Vec<Manner> {
+    let mut manners = Vec::new();
+    for coloured in [false, true] {
+        let bands = BANDS.into_iter().filter(|band| !is_left_out(sheet, *band));
+        manners.extend(bands.map(|band| Manner { coloured, band }));
+    }
+    manners
+}
+
+/// The instructions of each side, where they are counted.
+fn count(sheet: &Sheet, sides: &[Side], counting: bool) -> io::Result<Vec<Option<u64>>> {
+    let file = write_sheet(sheet.name, &sheet.words)?;
+    let is_counted = |side: &Side| match side {
+        Side::Public(manner) => manner.bands(&sheet.words) <= MOST_COUNTED_BANDS,
+        _ => true,
+    };
+    let counted: Vec<Side> = sides.iter().copied().filter(is_counted).collect();
+    let counts = counting.then(|| counts::instructions(&counted, &file));
+    let mut counts = counts.flatten().unwrap_or_default().into_iter();
+    let place = |side| is_counted(side).then(|| counts.next()).flatten();
+    Ok(sides.iter().map(place).collect())
+}
+
+fn with_sum(public: Cost, check: Cost, painting: Cost, bands: usize) -> Cost {
+    let parts = check.instructions.zip(painting.instructions);
+    let sum = parts.map(|(check, painting)| bands as u64 * check + painting);
+    Cost {
+        instructions: public.instructions.or(sum),
+        ..public
+    }
 }
 
 fn write_sheet(name: &str, words: &[u32]) -> io::Result<PathBuf> {
@@ -346,84 +324,120 @@ fn write_sheet(name: &str, words: &[u32]) -> io::Result<PathBuf> {
     Ok(file)
 }
 
-fn bench_sheets(rounds: u32, counting: bool) -> io::Result<()> {
+// ---- The tables ----------------------------------------------------------
+
+fn microseconds(seconds: f64) -> String {
+    match seconds * 1e6 {
+        small if small < 100.0 => format!("{small:.2}"),
+        large => format!("{large:.0}"),
+    }
+}
+
+fn share(part: f64, whole: f64) -> String {
+    format!("{:.3}", part / whole)
+}
+
+fn count_share(times: usize, part: Option<u64>, whole: Option<u64>) -> String {
+    let both = part.zip(whole);
+    both.map_or("-".to_string(), |(part, whole)| {
+        share(times as f64 * part as f64, whole as f64)
+    })
+}
+
+fn write_checks(measured: &[Measured]) -> io::Result<()> {
     let mut out = io::stdout();
     writeln!(
         out,
-        "The check against the original's painting of the sheet, plain, planning left out:\n\
-         processor time on {}, the least of {rounds} rounds, and instructions.\n",
-        std::env::consts::ARCH
+        "\nOne check of each sheet, and its share of the original's plain painting of the whole \
+         sheet:\n\n\
+         | sheet | columns | rows | words | time, us | share | instructions | share |\n\
+         |---|--:|--:|--:|--:|--:|--:|--:|"
     )?;
-    let [whole, bands] = ["/ whole", "/ bands of 8"];
-    writeln!(
-        out,
-        "{:<12} {:>6} {:>10} {whole:>8} {bands:>12} {:>13} {whole:>8} {bands:>12}",
-        "sheet", "words", "check, us", "instructions"
-    )?;
-    for sheet in sheets() {
-        assert_accepted(sheet.name, &sheet.words);
-        let file = write_sheet(sheet.name, &sheet.words)?;
-        let seconds = seconds_of(&CHECK_SIDES, &sheet.words, rounds);
-        write!(out, "{:<12} {:>6} ", sheet.name, sheet.words.len())?;
-        write!(out, "{:>10.2} ", seconds[0] * 1e6)?;
-        let [whole, bands] = [1, 2].map(|nth| seconds[0] / seconds[nth]);
-        write!(out, "{whole:>8.4} {bands:>12.4} ")?;
-        let counts = CHECK_SIDES.map(|side| counting.then(|| instructions(side, &file))?);
-        writeln!(out, "{}", counted(counts))?;
+    for Measured {
+        sheet,
+        check,
+        lines,
+    } in measured
+    {
+        let whole = lines.iter().find(|line| line.bands == 1);
+        let original = whole.map_or(check, |line| &line.original);
+        let counted = check
+            .instructions
+            .map_or("-".to_string(), |n| n.to_string());
+        writeln!(
+            out,
+            "| {} | {} | {} | {} | {} | {} | {counted} | {} |",
+            sheet.name,
+            sheet.words[0],
+            sheet.words[1],
+            sheet.words.len(),
+            microseconds(check.seconds),
+            share(check.seconds, original.seconds),
+            count_share(1, check.instructions, original.instructions),
+        )?;
     }
     Ok(())
 }
 
-/// The check's instructions, and their share of each painting's.
-fn counted(counts: [Option<u64>; 3]) -> String {
-    let [Some(check), Some(whole), Some(bands)] = counts else {
-        return format!("{:>13} {:>8} {:>12}", "-", "-", "-");
-    };
-    let share = |of: u64| check as f64 / of as f64;
-    format!("{check:>13} {:>8.4} {:>12.4}", share(whole), share(bands))
-}
-
-// ---- Growth --------------------------------------------------------------
-
-fn bench_growth(rounds: u32) -> io::Result<()> {
+fn write_painting(measured: &[Measured], coloured: bool) -> io::Result<()> {
     let mut out = io::stdout();
+    let kind = if coloured { "Coloured" } else { "Plain" };
     writeln!(
         out,
-        "\nThe check's time for a record as a table grows, the sheet without them taken off:\n\
-         at the least count in nanoseconds, then as a multiple of that; 1 is linear.\n"
+        "\n{kind}, the whole sheet in bands of 1 and of 8 rows and as one band. Times in \
+         microseconds; the other columns are shares of the original's painting at the same band \
+         height. `check` is one check for each band, `painting` leaves the check out, `both` is \
+         the public call, which checks at each band. Instructions marked `+` are the sum of the \
+         two parts'.\n\n\
+         | sheet | band | original, us | both, us | check | painting | both \
+         | instructions: original | check | painting | both |\n\
+         |---|--:|--:|--:|--:|--:|--:|--:|--:|--:|--:|"
     )?;
-    for growth in growths() {
-        let times = growth_times(&growth, rounds);
-        let [(least, first), larger @ ..] = &times[..] else {
-            continue;
-        };
-        write!(out, "{:<21} {least:>5}: {first:>8.2} ns", growth.what)?;
-        for (count, each) in larger {
-            write!(out, "  {count:>5}: {:>5.2}", each / first)?;
+    for one in measured {
+        let lines = one
+            .lines
+            .iter()
+            .filter(|line| line.manner.coloured == coloured);
+        for line in lines {
+            writeln!(out, "{}", painting_row(one, line))?;
         }
-        writeln!(out)?;
     }
     Ok(())
 }
 
-/// Nanoseconds for a record, for each count.
-fn growth_times(growth: &Growth, rounds: u32) -> Vec<(u32, f64)> {
-    let mut works = Vec::new();
-    for step in &growth.steps {
-        for words in [&step.with, &step.without] {
-            assert_accepted(&format!("{} {}", step.count, growth.what), words);
-            works.push(check_work(words));
-        }
-    }
-    let seconds = least_seconds(&mut works, rounds);
-    let of_step = |(step, seconds): (&Step, &[f64])| {
-        let nanoseconds = (seconds[0] - seconds[1]) * 1e9;
-        (step.count, nanoseconds / f64::from(step.count))
+fn painting_row(one: &Measured, line: &Line) -> String {
+    let band = match line.manner.band {
+        ALL_ROWS => "whole".to_string(),
+        band => band.to_string(),
     };
-    growth
-        .steps
-        .iter()
-        .zip(seconds.chunks(2))
-        .map(of_step)
-        .collect()
+    let Line {
+        painting,
+        public,
+        original,
+        ..
+    } = line;
+    let checks = line.bands as f64 * one.check.seconds;
+    let counted = original
+        .instructions
+        .map_or("-".to_string(), |n| n.to_string());
+    let of_original =
+        |times, cost: &Cost| count_share(times, cost.instructions, original.instructions);
+    let sum = if line.is_sum && public.instructions.is_some() {
+        "+"
+    } else {
+        ""
+    };
+    [
+        format!("| {} | {band}", one.sheet.name),
+        microseconds(original.seconds),
+        microseconds(public.seconds),
+        share(checks, original.seconds),
+        share(painting.seconds, original.seconds),
+        share(public.seconds, original.seconds),
+        counted,
+        of_original(line.bands, &one.check),
+        of_original(1, painting),
+        format!("{}{sum} |", of_original(1, public)),
+    ]
+    .join(" | ")
 }

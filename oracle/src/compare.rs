@@ -416,7 +416,9 @@ impl Tally {
 
     fn differs(&mut self, number: u64, what: String, words: &[u32]) {
         self.differences += 1;
-        if self.shown.len() < SHOWN {
+        // Of an image the first difference.
+        let is_shown = self.shown.last().is_some_and(|last| last.number == number);
+        if !is_shown && self.shown.len() < SHOWN {
             let image = shown_image(words);
             self.shown.push(Difference {
                 number,

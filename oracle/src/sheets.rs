@@ -78,15 +78,19 @@ fn add_edge(draft: &mut Draft, ends: [u32; 4], path: u32, more: u32, abc: [u32; 
 /// Four gear stages in a gearbox: what the fitter's handheld shows.
 fn small_card() -> Draft {
     let mut draft = Draft::blank_sheet(29, 10);
-    add_box(&mut draft, [2, 2, 9, 3], "Motor");
-    add_box(&mut draft, [17, 2, 10, 3], "Ring");
-    add_box(&mut draft, [2, 6, 9, 3], "Worm");
-    add_box(&mut draft, [17, 6, 10, 3], "Pinion");
-    add_group(&mut draft, [0, 0, 29, 10], "Azimuth gearbox");
-    add_edge(&mut draft, [6, 4, 6, 6], DIRECT, 0, [0; 3]);
-    add_edge(&mut draft, [10, 7, 17, 7], DIRECT, X_FLOW_BIT, [0; 3]);
-    add_edge(&mut draft, [21, 6, 21, 4], DIRECT, 0, [0; 3]);
+    add_card(&mut draft);
     draft
+}
+
+fn add_card(draft: &mut Draft) {
+    add_box(draft, [2, 2, 9, 3], "Motor");
+    add_box(draft, [17, 2, 10, 3], "Ring");
+    add_box(draft, [2, 6, 9, 3], "Worm");
+    add_box(draft, [17, 6, 10, 3], "Pinion");
+    add_group(draft, [0, 0, 29, 10], "Azimuth gearbox");
+    add_edge(draft, [6, 4, 6, 6], DIRECT, 0, [0; 3]);
+    add_edge(draft, [10, 7, 17, 7], DIRECT, X_FLOW_BIT, [0; 3]);
+    add_edge(draft, [21, 6, 21, 4], DIRECT, 0, [0; 3]);
 }
 
 /// 200 columns by 120 rows: 280 boxes, each with edges of several kinds to the
@@ -278,6 +282,48 @@ fn step(table: usize, count: u32, made: fn(u32) -> Draft) -> Step {
         with: draft.to_words(),
         without: unlisted.to_words(),
     }
+}
+
+/// A sheet that doubles three times, and nothing else does.
+pub struct GrowingSheet {
+    pub what: &'static str,
+    pub sheets: Vec<Vec<u32>>,
+}
+
+/// In width, in height and in both, under things that stay as they are and under things
+/// that reach over the whole sheet.
+pub fn growing_sheets() -> Vec<GrowingSheet> {
+    let kinds: [(&str, [u32; 2], fn(&mut Draft)); 6] = [
+        ("width, a small card", [1, 0], add_card),
+        ("height, a small card", [0, 1], add_card),
+        ("both, a small card", [1, 1], add_card),
+        ("width, things from end to end", [1, 0], add_end_to_end),
+        ("height, things from end to end", [0, 1], add_end_to_end),
+        ("both, things from end to end", [1, 1], add_end_to_end),
+    ];
+    let grown = |(what, grows, fill): (_, [u32; 2], fn(&mut Draft))| GrowingSheet {
+        what,
+        sheets: (0..4)
+            .map(|step| {
+                let [width, height] = grows.map(|grows| 64 << (grows * step));
+                let mut draft = Draft::blank_sheet(width, height);
+                fill(&mut draft);
+                accepted(&draft)
+            })
+            .collect(),
+    };
+    kinds.into_iter().map(grown).collect()
+}
+
+/// A group around the sheet, and an edge of each flow from end to end.
+fn add_end_to_end(draft: &mut Draft) {
+    let [width, height] = [draft.head[0], draft.head[1]];
+    add_group(draft, [0, 0, width, height], "Azimuth gearbox");
+    let (down, along) = ([5, 0, 5, height - 1], [0, 7, width - 1, 7]);
+    add_edge(draft, down, DIRECT, 0, [0; 3]);
+    add_edge(draft, along, DIRECT, X_FLOW_BIT, [0; 3]);
+    let ends = [9, 0, width - 9, height - 1];
+    add_edge(draft, ends, CORNER, 0, [height / 2, 0, 0]);
 }
 
 fn boxes(count: u32) -> Draft {

@@ -1,0 +1,186 @@
+//! The product: its check and its painting apart, as the crate `timed` has them for
+//! this, and the public calls.
+
+use super::{Manner, Work};
+use crate::layout::room;
+use crate::paint::paint;
+use crate::pivotdawn::{self, Outcome, Planes};
+use crate::sheets::Sheet;
+use std::hint::black_box;
+
+extern "C" {
+    /// The code of an image. A slice crosses as a pointer and a length.
+    fn timed_check(image: *const u32, words: usize) -> u32;
+
+    /// The painting of a band of an accepted image, without the check.
+    fn timed_paint(
+        image: *const u32,
+        words: usize,
+        first: usize,
+        rows: usize,
+        cells: *mut u32,
+        cell_words: usize,
+        scratch: *mut u32,
+        scratch_words: usize,
+    );
+
+    fn timed_paint_coloured(
+        image: *const u32,
+        words: usize,
+        first: usize,
+        rows: usize,
+        cells: *mut u32,
+        cell_words: usize,
+        colours: *mut u32,
+        colour_words: usize,
+        stamps: *mut u32,
+        stamp_words: usize,
+        scratch: *mut u32,
+        scratch_words: usize,
+    );
+}
+
+/// The code.
+pub fn check(words: &[u32]) -> u32 {
+    // SAFETY: the slice is lent for the call alone, with its own length; the callee
+    // is proved to stay inside it.
+    unsafe { timed_check(words.as_ptr(), words.len()) }
+}
+
+/// What paints a band.
+#[derive(Clone, Copy)]
+pub enum Call {
+    /// The painting of an accepted image, without the check.
+    Painting,
+    /// The public call.
+    Public,
+}
+
+/// The buffers that are lent, for the largest band.
+struct Lent {
+    coloured: bool,
+    cells: Vec<u32>,
+    colours: Vec<u32>,
+    stamps: Vec<u32>,
+    scratch: Vec<u32>,
+}
+
+impl Lent {
+    fn for_rows(words: &[u32], coloured: bool, rows: usize) -> Lent {
+        let [cells, colours, stamps, scratch] = room(words, rows).map(|wanted| vec![0; wanted]);
+        Lent {
+            coloured,
+            cells,
+            colours,
+            stamps,
+            scratch,
+        }
+    }
+
+    fn paint_band(&mut self, call: Call, image: &[u32], band: (usize, usize)) {
+        match call {
+            Call::Painting => self.paint_checked(image, band),
+            Call::Public => {
+                let outcome = self.paint_publicly(image, band);
+                assert_eq!(outcome.code, 0, "a sheet of bench is refused");
+            }
+        }
+    }
+
+    fn paint_publicly(&mut self, image: &[u32], (first, rows): (usize, usize)) -> Outcome {
+        let wanted = room(image, rows)[0];
+        let planes = Planes {
+            cells: &mut self.cells[..wanted],
+            colours: &mut self.colours[..wanted],
+            stamps: &mut self.stamps[..wanted],
+            scratch: &mut self.scratch,
+        };
+        match self.coloured {
+            false => pivotdawn::paint(image, first, rows, planes.cells, planes.scratch),
+            true => pivotdawn::paint_coloured(image, first, rows, planes),
+        }
+    }
+
+    /// The image is one that the check accepts, and the band is on its sheet.
+    fn paint_checked(&mut self, image: &[u32], (first, rows): (usize, usize)) {
+        let wanted = room(image, rows)[0];
+        let cells = &mut self.cells[..wanted];
+        let (colours, stamps) = (&mut self.colours[..wanted], &mut self.stamps[..wanted]);
+        let scratch = &mut self.scratch[..];
+        let (place, words) = (image.as_ptr(), image.len());
+        // SAFETY: every slice is lent for the call alone, with its own length; the
+        // callee is proved to stay inside them where the image is accepted, the band is
+        // on the sheet and there is room, all of which `bench` has seen to.
+        unsafe {
+            match self.coloured {
+                false => timed_paint(
+                    place,
+                    words,
+                    first,
+                    rows,
+                    cells.as_mut_ptr(),
+                    cells.len(),
+                    scratch.as_mut_ptr(),
+                    scratch.len(),
+                ),
+                true => timed_paint_coloured(
+                    place,
+                    words,
+                    first,
+                    rows,
+                    cells.as_mut_ptr(),
+                    cells.len(),
+                    colours.as_mut_ptr(),
+                    colours.len(),
+                    stamps.as_mut_ptr(),
+                    stamps.len(),
+                    scratch.as_mut_ptr(),
+                    scratch.len(),
+                ),
+            }
+        }
+    }
+}
+
+/// First row and rows of each band.
+fn bands(words: &[u32], band: usize) -> impl Iterator<Item = (usize, usize)> {
+    let height = words[1] as usize;
+    let band = band.clamp(1, height.max(1));
+    let firsts = (0..height).step_by(band);
+    firsts.map(move |first| (first, band.min(height - first)))
+}
+
+/// Every band of the sheet; the buffers are made before the time begins.
+pub fn work(words: &[u32], manner: Manner, call: Call) -> Work<'_> {
+    let Manner { coloured, band } = manner;
+    let mut lent = Lent::for_rows(words, coloured, band.min(words[1] as usize));
+    Box::new(move || {
+        for rows in bands(words, band) {
+            black_box(&mut lent).paint_band(call, black_box(words), rows);
+        }
+    })
+}
+
+/// A picture that differs from the original's is not worth a time.
+pub fn assert_painted_alike(sheet: &Sheet, manner: Manner) {
+    let Manner { coloured, band } = manner;
+    let words = &sheet.words;
+    let original =
+        paint(words, coloured, usize::MAX).unwrap_or_else(|why| panic!("a sheet of bench: {why}"));
+    for call in [Call::Painting, Call::Public] {
+        let mut lent = Lent::for_rows(words, coloured, band.min(original.height));
+        let [mut cells, mut colours] = [(); 2].map(|()| Vec::<u32>::new());
+        for (first, rows) in bands(words, band) {
+            lent.paint_band(call, words, (first, rows));
+            let painted = original.width * rows;
+            cells.extend(&lent.cells[..painted]);
+            colours.extend(&lent.colours[..painted]);
+        }
+        let same_colours = !coloured || colours == original.colours;
+        let [name, how] = [sheet.name, &manner.name()];
+        assert!(
+            cells == original.cells && same_colours,
+            "{name}, {how}: another picture"
+        );
+    }
+}
