@@ -13,7 +13,7 @@ use crate::layout::{
     RUN_CAPACITY_WORD, SELF_LOOP_BIT, SIDE_CHANNEL, SIMPLE, SPLINE, SUBGRAPHS, TABLES,
     WIDTH_RANGES, X_FLOW_BIT,
 };
-use crate::slow_check::{slow_check, touched_rows, Answer};
+use crate::slow_check::{all_touched_rows, slow_check, touched_rows, Answer};
 
 fn answer_to(draft: &Draft) -> Answer {
     slow_check(&draft.to_words())
@@ -428,21 +428,18 @@ fn lift_corners(draft: &mut Draft) {
 /// Lists what touches the sheet, with exactly its rows or wider ones; what
 /// touches nothing is listed sometimes.
 fn list_things(dice: &mut Dice, draft: &mut Draft) {
-    let words = draft.to_words();
-    for kind in [NODES, EDGES, SUBGRAPHS] {
-        for index in 0..draft.count(kind) {
-            match touched_rows(&words, kind as u32, index) {
-                Some(rows) => {
-                    let (first_row, last_row) = random_cover(dice, rows);
-                    draft.list(kind, index, first_row, last_row);
-                }
-                None if dice.percent(40) => {
-                    let first_row = random_y(dice, draft);
-                    let last_row = (first_row + random_extent(dice)).min(COORDINATE_LIMIT);
-                    draft.list(kind, index, first_row, last_row);
-                }
-                None => {}
+    for (kind, index, touched) in all_touched_rows(&draft.to_words()) {
+        match touched {
+            Some(rows) => {
+                let (first_row, last_row) = random_cover(dice, rows);
+                draft.list(kind, index, first_row, last_row);
             }
+            None if dice.percent(40) => {
+                let first_row = random_y(dice, draft);
+                let last_row = (first_row + random_extent(dice)).min(COORDINATE_LIMIT);
+                draft.list(kind, index, first_row, last_row);
+            }
+            None => {}
         }
     }
     shuffle(dice, &mut draft.tables[ELEMENTS]);
@@ -1158,16 +1155,10 @@ fn targets_by_hand(base: &Draft) -> Vec<(u32, Vec<u32>)> {
 
 /// Every thing and its touched rows, for those which touch any.
 fn touching_things(base: &Draft) -> Vec<(usize, u32, (u32, u32))> {
-    let words = base.to_words();
-    let mut things = Vec::new();
-    for kind in [NODES, EDGES, SUBGRAPHS] {
-        for index in 0..base.count(kind) {
-            if let Some(touched) = touched_rows(&words, kind as u32, index) {
-                things.push((kind, index, touched));
-            }
-        }
-    }
+    let things = all_touched_rows(&base.to_words()).into_iter();
     things
+        .filter_map(|(kind, index, touched)| Some((kind, index, touched?)))
+        .collect()
 }
 
 /// For every thing, a listing that lacks one row of what it touches.

@@ -70,7 +70,25 @@ pub fn touched_rows(words: &[u32], kind: u32, index: u32) -> Option<(u32, u32)> 
     if !ELEMENT_KINDS.contains(&kind) || u64::from(index) >= image.count(kind) {
         return None;
     }
-    let touched = ink_of(&image, kind, u64::from(index)).touched();
+    rows_of(&image, kind, index)
+}
+
+/// The same of every node, edge and subgraph in turn: its kind, its index and its rows.
+pub fn all_touched_rows(words: &[u32]) -> Vec<(usize, u32, Option<(u32, u32)>)> {
+    let image = Image { words };
+    let has_ink = refusal_of_the_form(words).is_none();
+    let mut things = Vec::new();
+    for kind in ELEMENT_KINDS {
+        for index in 0..image.count(kind) as u32 {
+            let rows = has_ink.then(|| rows_of(&image, kind, index)).flatten();
+            things.push((kind, index, rows));
+        }
+    }
+    things
+}
+
+fn rows_of(image: &Image, kind: usize, index: u32) -> Option<(u32, u32)> {
+    let touched = ink_of(image, kind, u64::from(index)).touched();
     Some((*touched.first()?, *touched.last()?))
 }
 
