@@ -73,6 +73,16 @@ impl Side {
         }
     }
 
+    /// How many bands it paints of a sheet; the check counts as one.
+    fn bands(self, words: &[u32]) -> usize {
+        match self {
+            Side::Check => 1,
+            Side::Painting(manner) | Side::Public(manner) | Side::Original(manner) => {
+                manner.bands(words)
+            }
+        }
+    }
+
     fn by_name(name: &str) -> Option<Side> {
         let mut sides = vec![Side::Check];
         for coloured in [false, true] {
@@ -240,7 +250,7 @@ struct Measured {
 
 /// Of more bands the instructions of the public call are not counted, they are the sum
 /// of its two parts': valgrind would take minutes.
-const MOST_COUNTED_BANDS: usize = 150;
+const MANY_BANDS: usize = 150;
 
 impl Measured {
     fn of(sheet: Sheet, rounds: u32, counting: bool) -> io::Result<Measured> {
@@ -295,15 +305,12 @@ fn manners_of(sheet: &Sheet) -> Vec<Manner> {
 /// The instructions of each side, where they are counted.
 fn count(sheet: &Sheet, sides: &[Side], counting: bool) -> io::Result<Vec<Option<u64>>> {
     let file = write_sheet(sheet.name, &sheet.words)?;
-    let is_counted = |side: &Side| match side {
-        Side::Public(manner) => manner.bands(&sheet.words) <= MOST_COUNTED_BANDS,
-        _ => true,
+    let is_counted = |side: Side| match side {
+        Side::Public(_) => counting && side.bands(&sheet.words) <= MANY_BANDS,
+        _ => counting,
     };
-    let counted: Vec<Side> = sides.iter().copied().filter(is_counted).collect();
-    let counts = counting.then(|| counts::instructions(&counted, &file));
-    let mut counts = counts.flatten().unwrap_or_default().into_iter();
-    let place = |side| is_counted(side).then(|| counts.next()).flatten();
-    Ok(sides.iter().map(place).collect())
+    let counted = |side: &Side| is_counted(*side).then(|| counts::instructions(*side, &file))?;
+    Ok(sides.iter().map(counted).collect())
 }
 
 fn with_sum(public: Cost, check: Cost, painting: Cost, bands: usize) -> Cost {

@@ -1,37 +1,36 @@
 //! Instructions: those of one call, counted by valgrind's callgrind.
 
-use super::{with_plan, Side};
+use super::{with_plan, Side, MANY_BANDS};
 use crate::{image, wrong_use};
 use std::fs;
 use std::io;
 use std::path::Path;
 use std::process::{Command, ExitCode, Stdio};
 
-/// Collecting begins and ends with this function, and each time it ends the counts are
-/// written: valgrind is told its name.
+/// Collecting begins and ends with this function: valgrind is told its name.
 #[no_mangle]
 #[inline(never)]
 pub fn pivotdawn_counted(work: &mut dyn FnMut()) {
     work();
 }
 
-/// `bench-once FILE SIDE...`: one call of each side on an image, for valgrind. A call
-/// before it does what only a first call has to do.
+/// `bench-once SIDE FILE`: one call of a side on an image, for valgrind. A call before it
+/// does what only a first call has to do; where there are many bands that weighs nothing,
+/// and a second call would take long.
 pub fn once(options: &[String]) -> io::Result<ExitCode> {
-    let Some((file, names)) = options.split_first() else {
-        return Ok(wrong_use("bench-once FILE SIDE..."));
+    let [name, file] = options else {
+        return Ok(wrong_use("bench-once SIDE FILE"));
     };
-    let sides: Option<Vec<Side>> = names.iter().map(|name| Side::by_name(name)).collect();
-    let Some(sides) = sides else {
+    let Some(side) = Side::by_name(name) else {
         return Ok(wrong_use("bench-once: no such side"));
     };
     let words = image::words_of(&fs::read(file)?).unwrap_or_default();
     with_plan(&words, |planned| {
-        for side in sides {
-            let mut work = side.work(&words, planned);
+        let mut work = side.work(&words, planned);
+        if side.bands(&words) <= MANY_BANDS {
             work();
-            pivotdawn_counted(&mut work);
         }
+        pivotdawn_counted(&mut work);
     });
     Ok(ExitCode::SUCCESS)
 }
@@ -49,33 +48,25 @@ pub fn valgrind_is_at_hand() -> bool {
 const NO_REPEATED_BYTES: &str = "glibc.cpu.x86_rep_stosb_threshold=1000000000:\
      glibc.cpu.x86_rep_movsb_threshold=1000000000";
 
-/// Instructions of one call of each side; none where valgrind does not tell.
-pub fn instructions(sides: &[Side], file: &Path) -> Option<Vec<u64>> {
+/// Instructions of one call; none where valgrind does not tell.
+pub fn instructions(side: Side, file: &Path) -> Option<u64> {
     let counts = file.with_extension("counts");
     let mut out_file = std::ffi::OsString::from("--callgrind-out-file=");
     out_file.push(&counts);
     let ended = Command::new("valgrind")
         .args(["--tool=callgrind", "--collect-atstart=no"])
         .arg("--toggle-collect=pivotdawn_counted")
-        .arg("--dump-after=pivotdawn_counted")
         .arg(out_file)
         .arg(std::env::current_exe().ok()?)
-        .arg("bench-once")
+        .args(["bench-once", &side.name()])
         .arg(file)
-        .args(sides.iter().map(|side| side.name()))
         .env("GLIBC_TUNABLES", NO_REPEATED_BYTES)
         .stderr(Stdio::null())
         .status();
     if !ended.ok()?.success() {
         return None;
     }
-    // The counts of call N stand in a file of their own, with N after its name.
-    let of_call = |nth: usize| {
-        let mut name = counts.clone().into_os_string();
-        name.push(format!(".{}", nth + 1));
-        let text = fs::read_to_string(&name).ok()?;
-        let line = text.lines().find(|line| line.starts_with("totals:"))?;
-        line.split_whitespace().nth(1)?.parse().ok()
-    };
-    (0..sides.len()).map(of_call).collect()
+    let text = fs::read_to_string(&counts).ok()?;
+    let line = text.lines().find(|line| line.starts_with("totals:"))?;
+    line.split_whitespace().nth(1)?.parse().ok()
 }
