@@ -73,16 +73,6 @@ impl Side {
         }
     }
 
-    /// How many bands it paints of a sheet; the check counts as one.
-    fn bands(self, words: &[u32]) -> usize {
-        match self {
-            Side::Check => 1,
-            Side::Painting(manner) | Side::Public(manner) | Side::Original(manner) => {
-                manner.bands(words)
-            }
-        }
-    }
-
     fn by_name(name: &str) -> Option<Side> {
         let mut sides = vec![Side::Check];
         for coloured in [false, true] {
@@ -95,12 +85,22 @@ impl Side {
         sides.into_iter().find(|side| side.name() == name)
     }
 
-    fn work<'a>(self, words: &'a [u32], planned: &'a Planned<'a>) -> Work<'a> {
+    /// `bands` chooses those that are painted out of all of them.
+    fn work<'a>(self, words: &'a [u32], planned: &'a Planned<'a>, bands: Choice) -> Work<'a> {
         match self {
             Side::Check => check_work(words),
-            Side::Painting(manner) => product::work(words, manner, product::Call::Painting),
-            Side::Public(manner) => product::work(words, manner, product::Call::Public),
-            Side::Original(manner) => Box::new(original_work(planned, manner)),
+            Side::Painting(manner) => {
+                let bands = bands(manner.bands(words));
+                product::work(words, manner, product::Call::Painting, bands)
+            }
+            Side::Public(manner) => {
+                let bands = bands(manner.bands(words));
+                product::work(words, manner, product::Call::Public, bands)
+            }
+            Side::Original(manner) => {
+                let bands = bands(manner.bands(words));
+                Box::new(original_work(planned, manner, bands))
+            }
         }
     }
 }
@@ -114,24 +114,58 @@ impl Manner {
         }
     }
 
-    /// How many bands a sheet has.
-    fn bands(self, words: &[u32]) -> usize {
-        (words[1] as usize).div_ceil(self.band).max(1)
+    /// First row and rows of each band of a sheet.
+    fn bands(self, words: &[u32]) -> Vec<Band> {
+        let height = words[1] as usize;
+        let band = self.band.clamp(1, height.max(1));
+        let firsts = (0..height).step_by(band);
+        firsts
+            .map(|first| (first, band.min(height - first)))
+            .collect()
     }
 }
 
-/// Every band of the sheet. The canvas is emptied for each band, as the original
+/// First row and rows.
+type Band = (usize, usize);
+
+/// Which bands of a sheet are painted.
+type Choice = fn(Vec<Band>) -> Vec<Band>;
+
+fn all_bands(bands: Vec<Band>) -> Vec<Band> {
+    bands
+}
+
+/// Of many bands four stretches of 25: valgrind would take minutes for all of them.
+fn counted_bands(bands: Vec<Band>) -> Vec<Band> {
+    const MANY: usize = 150;
+    const STRETCH: usize = 25;
+    if bands.len() <= MANY {
+        return bands;
+    }
+    let stretches = bands.chunks(bands.len().div_ceil(4));
+    let middles = stretches.map(|part| {
+        let from = part.len().saturating_sub(STRETCH) / 2;
+        &part[from..part.len().min(from + STRETCH)]
+    });
+    middles.flatten().copied().collect()
+}
+
+/// These bands of the sheet. The canvas is emptied for each band, as the original
 /// does; its buffers and the scratch are made before the time begins.
-fn original_work<'a>(planned: &'a Planned<'a>, manner: Manner) -> impl FnMut() + 'a {
+fn original_work<'a>(
+    planned: &'a Planned<'a>,
+    manner: Manner,
+    bands: Vec<Band>,
+) -> impl FnMut() + 'a {
     let Manner { coloured, band } = manner;
     let mut scratch = planned.scratch(coloured, band);
     let mut cells = vec![Cell::EMPTY; planned.room(band)];
     let mut colours = vec![CellColor::DEFAULT; planned.room(band)];
     move || {
-        for rows in planned.bands(band) {
+        for rows in &bands {
             let cells = black_box(&mut cells[..]);
             let colours = coloured.then_some(black_box(&mut colours[..]));
-            black_box(planned.paint_band(&mut scratch, cells, colours, rows));
+            black_box(planned.paint_band(&mut scratch, cells, colours, *rows));
         }
     }
 }
@@ -234,12 +268,12 @@ struct Cost {
 /// What was measured in one manner.
 struct Line {
     manner: Manner,
+    /// The bands of the sheet, and those whose instructions were counted.
     bands: usize,
+    counted_bands: usize,
     painting: Cost,
     public: Cost,
     original: Cost,
-    /// Whether the instructions of the public call are a sum.
-    is_sum: bool,
 }
 
 struct Measured {
@@ -247,10 +281,6 @@ struct Measured {
     check: Cost,
     lines: Vec<Line>,
 }
-
-/// Of more bands the instructions of the public call are not counted, they are the sum
-/// of its two parts': valgrind would take minutes.
-const MANY_BANDS: usize = 150;
 
 impl Measured {
     fn of(sheet: Sheet, rounds: u32, counting: bool) -> io::Result<Measured> {
@@ -263,7 +293,9 @@ impl Measured {
             sides.extend(kinds.map(|kind| kind(*manner)));
         }
         let seconds = with_plan(&sheet.words, |planned| {
-            let works = sides.iter().map(|side| side.work(&sheet.words, planned));
+            let works = sides
+                .iter()
+                .map(|side| side.work(&sheet.words, planned, all_bands));
             least_seconds(&mut works.collect::<Vec<_>>(), rounds)
         });
         let counted = count(&sheet, &sides, counting)?;
@@ -277,11 +309,11 @@ impl Measured {
             let bands = manner.bands(&sheet.words);
             Line {
                 manner,
-                bands,
+                bands: bands.len(),
+                counted_bands: counted_bands(bands).len(),
                 painting,
-                public: with_sum(public, check, painting, bands),
+                public,
                 original,
-                is_sum: public.instructions.is_none(),
             }
         });
         let lines = lines.collect();
@@ -305,21 +337,8 @@ fn manners_of(sheet: &Sheet) -> Vec<Manner> {
 /// The instructions of each side, where they are counted.
 fn count(sheet: &Sheet, sides: &[Side], counting: bool) -> io::Result<Vec<Option<u64>>> {
     let file = write_sheet(sheet.name, &sheet.words)?;
-    let is_counted = |side: Side| match side {
-        Side::Public(_) => counting && side.bands(&sheet.words) <= MANY_BANDS,
-        _ => counting,
-    };
-    let counted = |side: &Side| is_counted(*side).then(|| counts::instructions(*side, &file))?;
+    let counted = |side: &Side| counting.then(|| counts::instructions(*side, &file))?;
     Ok(sides.iter().map(counted).collect())
-}
-
-fn with_sum(public: Cost, check: Cost, painting: Cost, bands: usize) -> Cost {
-    let parts = check.instructions.zip(painting.instructions);
-    let sum = parts.map(|(check, painting)| bands as u64 * check + painting);
-    Cost {
-        instructions: public.instructions.or(sum),
-        ..public
-    }
 }
 
 fn write_sheet(name: &str, words: &[u32]) -> io::Result<PathBuf> {
@@ -394,8 +413,8 @@ fn write_painting(measured: &[Measured], coloured: bool) -> io::Result<()> {
         "\n{kind}, the whole sheet in bands of 1 and of 8 rows and as one band. Times in \
          microseconds; the other columns are shares of the original's painting at the same band \
          height. `check` is one check for each band, `painting` leaves the check out, `both` is \
-         the public call, which checks at each band. Instructions marked `+` are the sum of the \
-         two parts'.\n\n\
+         the public call, which checks at each band. Instructions marked `*` are those of 100 bands \
+         of the sheet, four stretches of 25.\n\n\
          | sheet | band | original, us | both, us | check | painting | both \
          | instructions: original | check | painting | both |\n\
          |---|--:|--:|--:|--:|--:|--:|--:|--:|--:|--:|"
@@ -424,16 +443,15 @@ fn painting_row(one: &Measured, line: &Line) -> String {
         ..
     } = line;
     let checks = line.bands as f64 * one.check.seconds;
-    let counted = original
-        .instructions
-        .map_or("-".to_string(), |n| n.to_string());
-    let of_original =
-        |times, cost: &Cost| count_share(times, cost.instructions, original.instructions);
-    let sum = if line.is_sum && public.instructions.is_some() {
-        "+"
+    let mark = if line.counted_bands < line.bands {
+        "*"
     } else {
         ""
     };
+    let counted = original.instructions;
+    let counted = counted.map_or("-".to_string(), |count| format!("{count}{mark}"));
+    let of_original =
+        |times, cost: &Cost| count_share(times, cost.instructions, original.instructions);
     [
         format!("| {} | {band}", one.sheet.name),
         microseconds(original.seconds),
@@ -442,9 +460,9 @@ fn painting_row(one: &Measured, line: &Line) -> String {
         share(painting.seconds, original.seconds),
         share(public.seconds, original.seconds),
         counted,
-        of_original(line.bands, &one.check),
+        of_original(line.counted_bands, &one.check),
         of_original(1, painting),
-        format!("{}{sum} |", of_original(1, public)),
+        format!("{} |", of_original(1, public)),
     ]
     .join(" | ")
 }

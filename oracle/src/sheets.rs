@@ -138,11 +138,15 @@ fn add_dense_edges(draft: &mut Draft, x: u32, y: u32) {
 }
 
 fn label_edge(draft: &mut Draft, edge: u32, [x, y]: [u32; 2]) {
+    write_edge_label(draft, edge);
+    draft.add(PLACED_LABELS, &[edge, x, y, 1 << 31]);
+}
+
+fn write_edge_label(draft: &mut Draft, edge: u32) {
     let [start, count] = draft.write("oil");
     let record = &mut draft.tables[EDGES][edge as usize];
     record[4] |= LABEL_PRESENT_BIT;
     (record[8], record[9]) = (start, count);
-    draft.add(PLACED_LABELS, &[edge, x, y, 1 << 31]);
 }
 
 /// 2,000 rows; 40 boxes and 120 edges that pass over a thousand of them.
@@ -305,7 +309,7 @@ pub fn growing_sheets() -> Vec<GrowingSheet> {
         what,
         sheets: (0..4)
             .map(|step| {
-                let [width, height] = grows.map(|grows| 64 << (grows * step));
+                let [width, height] = grows.map(|grows| 128 << (grows * step));
                 let mut draft = Draft::blank_sheet(width, height);
                 fill(&mut draft);
                 accepted(&draft)
@@ -326,45 +330,55 @@ fn add_end_to_end(draft: &mut Draft) {
     add_edge(draft, ends, CORNER, 0, [height / 2, 0, 0]);
 }
 
+/// The sheet under growing tables is small, so that its cells cost little beside the
+/// records.
+const GROWTH_ROWS: u32 = 64;
+
+/// Every other row, then those again.
+fn row_of(nth: u32) -> u32 {
+    2 * nth % 50
+}
+
 fn boxes(count: u32) -> Draft {
-    let mut draft = Draft::blank_sheet(200, 2_100);
+    let mut draft = Draft::blank_sheet(200, GROWTH_ROWS);
     draft.write("Gear 42");
     for nth in 0..count {
-        draft.add(NODES, &[5, 2 * nth, 11, 3, 0, 7, BOXED << 30, 0, 0]);
+        draft.add(NODES, &[5, row_of(nth), 11, 3, 0, 7, BOXED << 30, 0, 0]);
     }
     draft
 }
 
 fn bent_edges(count: u32) -> Draft {
-    let mut draft = Draft::blank_sheet(200, 2_100);
+    let mut draft = Draft::blank_sheet(200, GROWTH_ROWS);
     for nth in 0..count {
-        let y = 2 * nth;
+        let y = row_of(nth);
         add_edge(&mut draft, [5, y, 90, y + 8], CORNER, 0, [y + 4, 0, 0]);
     }
     draft
 }
 
 fn groups(count: u32) -> Draft {
-    let mut draft = Draft::blank_sheet(200, 2_100);
+    let mut draft = Draft::blank_sheet(200, GROWTH_ROWS);
     draft.write("Gearbox");
     for nth in 0..count {
-        draft.add(SUBGRAPHS, &[5, 2 * nth, 30, 5, 0, 7, LIGHT_BORDER, 0]);
+        draft.add(SUBGRAPHS, &[5, row_of(nth), 30, 5, 0, 7, LIGHT_BORDER, 0]);
     }
     draft
 }
 
 fn placed_labels(count: u32) -> Draft {
-    let mut draft = Draft::blank_sheet(200, 2_100);
-    add_edge(&mut draft, [5, 0, 5, 8], DIRECT, 0, [0; 3]);
+    let mut draft = Draft::blank_sheet(200, GROWTH_ROWS);
+    let edge = add_edge(&mut draft, [5, 0, 5, 8], DIRECT, 0, [0; 3]);
+    write_edge_label(&mut draft, edge);
     for nth in 0..count {
-        draft.add(PLACED_LABELS, &[0, 5, 2 * nth, 1 << 31]);
+        draft.add(PLACED_LABELS, &[edge, 5, row_of(nth), 1 << 31]);
     }
     draft
 }
 
 /// So many things, none of which touches a row, and each of them listed.
 fn elements(count: u32) -> Draft {
-    let mut draft = Draft::blank_sheet(200, 2_100);
+    let mut draft = Draft::blank_sheet(200, GROWTH_ROWS);
     for nth in 0..count / 3 {
         draft.add(NODES, &[5, 5, 5, 5, 0, 0, BLANK << 30, 0, 0]);
         add_edge(&mut draft, [5, 5, 5, 5], DIRECT, 0, [0; 3]);
@@ -378,7 +392,7 @@ fn elements(count: u32) -> Draft {
 
 /// One subgraph's label whose glyphs all have width 0: every one is looked at.
 fn inkless_glyphs(count: u32) -> Draft {
-    let mut draft = Draft::blank_sheet(200, 2_100);
+    let mut draft = Draft::blank_sheet(200, GROWTH_ROWS);
     draft.add(WIDTH_RANGES, &COMBINING_RANGE);
     for _ in 0..count {
         draft.add(GLYPHS, &[COMBINING]);
@@ -388,7 +402,7 @@ fn inkless_glyphs(count: u32) -> Draft {
 }
 
 fn width_ranges(count: u32) -> Draft {
-    let mut draft = Draft::blank_sheet(200, 2_100);
+    let mut draft = Draft::blank_sheet(200, GROWTH_ROWS);
     for nth in 0..count {
         let first = 0x1000 + 16 * nth;
         draft.add(WIDTH_RANGES, &[first, first + 7, 2]);

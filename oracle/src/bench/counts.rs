@@ -1,6 +1,6 @@
 //! Instructions: those of one call, counted by valgrind's callgrind.
 
-use super::{with_plan, Side, MANY_BANDS};
+use super::{counted_bands, with_plan, Side};
 use crate::{image, wrong_use};
 use std::fs;
 use std::io;
@@ -15,8 +15,7 @@ pub fn pivotdawn_counted(work: &mut dyn FnMut()) {
 }
 
 /// `bench-once SIDE FILE`: one call of a side on an image, for valgrind. A call before it
-/// does what only a first call has to do; where there are many bands that weighs nothing,
-/// and a second call would take long.
+/// does what only a first call has to do.
 pub fn once(options: &[String]) -> io::Result<ExitCode> {
     let [name, file] = options else {
         return Ok(wrong_use("bench-once SIDE FILE"));
@@ -26,10 +25,8 @@ pub fn once(options: &[String]) -> io::Result<ExitCode> {
     };
     let words = image::words_of(&fs::read(file)?).unwrap_or_default();
     with_plan(&words, |planned| {
-        let mut work = side.work(&words, planned);
-        if side.bands(&words) <= MANY_BANDS {
-            work();
-        }
+        let mut work = side.work(&words, planned, counted_bands);
+        work();
         pivotdawn_counted(&mut work);
     });
     Ok(ExitCode::SUCCESS)

@@ -23,7 +23,7 @@ impl Measure {
     fn work(self, words: &[u32]) -> Work<'_> {
         match self {
             Measure::Check => check_work(words),
-            Measure::Painting => product::work(words, WHOLE, Call::Painting),
+            Measure::Painting => product::work(words, WHOLE, Call::Painting, WHOLE.bands(words)),
         }
     }
 }

@@ -1,7 +1,7 @@
 //! The product: its check and its painting apart, as the crate `timed` has them for
 //! this, and the public calls.
 
-use super::{Manner, Work};
+use super::{Band, Manner, Work};
 use crate::layout::room;
 use crate::paint::paint;
 use crate::pivotdawn::{self, Outcome, Planes};
@@ -142,21 +142,12 @@ impl Lent {
     }
 }
 
-/// First row and rows of each band.
-fn bands(words: &[u32], band: usize) -> impl Iterator<Item = (usize, usize)> {
-    let height = words[1] as usize;
-    let band = band.clamp(1, height.max(1));
-    let firsts = (0..height).step_by(band);
-    firsts.map(move |first| (first, band.min(height - first)))
-}
-
-/// Every band of the sheet; the buffers are made before the time begins.
-pub fn work(words: &[u32], manner: Manner, call: Call) -> Work<'_> {
-    let Manner { coloured, band } = manner;
-    let mut lent = Lent::for_rows(words, coloured, band.min(words[1] as usize));
+/// These bands of the sheet; the buffers are made before the time begins.
+pub fn work(words: &[u32], manner: Manner, call: Call, bands: Vec<Band>) -> Work<'_> {
+    let mut lent = Lent::for_rows(words, manner.coloured, manner.band.min(words[1] as usize));
     Box::new(move || {
-        for rows in bands(words, band) {
-            black_box(&mut lent).paint_band(call, black_box(words), rows);
+        for rows in &bands {
+            black_box(&mut lent).paint_band(call, black_box(words), *rows);
         }
     })
 }
@@ -170,7 +161,7 @@ pub fn assert_painted_alike(sheet: &Sheet, manner: Manner) {
     for call in [Call::Painting, Call::Public] {
         let mut lent = Lent::for_rows(words, coloured, band.min(original.height));
         let [mut cells, mut colours] = [(); 2].map(|()| Vec::<u32>::new());
-        for (first, rows) in bands(words, band) {
+        for (first, rows) in manner.bands(words) {
             lent.paint_band(call, words, (first, rows));
             let painted = original.width * rows;
             cells.extend(&lent.cells[..painted]);
