@@ -380,11 +380,12 @@ fn placed_labels(count: u32) -> Draft {
 fn elements(count: u32) -> Draft {
     let mut draft = Draft::blank_sheet(200, GROWTH_ROWS);
     for nth in 0..count / 3 {
+        let row = nth * (GROWTH_ROWS - 1) / (count / 3);
         draft.add(NODES, &[5, 5, 5, 5, 0, 0, BLANK << 30, 0, 0]);
         add_edge(&mut draft, [5, 5, 5, 5], DIRECT, 0, [0; 3]);
         draft.add(SUBGRAPHS, &[5, 5, 5, 5, 0, 0, 0, 0]);
         for kind in [NODES, EDGES, SUBGRAPHS] {
-            draft.list(kind, nth, nth, nth + 1);
+            draft.list(kind, nth, row, row + 1);
         }
     }
     draft

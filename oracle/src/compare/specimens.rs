@@ -1,0 +1,123 @@
+//! The images of `compare`: which image has a number, and what is asked about it.
+
+use super::{BLOCK, MOST_LENT};
+use crate::band_requests::Asking;
+use crate::generate::{code_targets, damage, random_image};
+use crate::structured::{structured_image, FAMILIES};
+
+/// How an image was made.
+#[derive(Clone, Copy, PartialEq, Eq)]
+pub enum Kind {
+    Random,
+    Damaged,
+    ForACode,
+    Structured,
+    FullTables,
+}
+
+pub const KIND_NAMES: [&str; 5] = [
+    "random",
+    "damaged",
+    "for a code",
+    "structured",
+    "full tables",
+];
+
+pub struct Specimen {
+    pub kind: Kind,
+    pub made: String,
+    pub words: Vec<u32>,
+    /// The code that it must get, where its maker knows.
+    pub meant: Option<u32>,
+}
+
+/// Of 20 images 8 are random, 4 damaged (2 once, 1 twice, 1 three times), 2 made for a
+/// code and 6 structured.
+const OF_TWENTY: u64 = 20;
+const TARGETS_OF_TWENTY: u64 = 2;
+
+/// The images of a block.
+pub struct Block {
+    seed: u64,
+    number: u64,
+    /// Images made for a code; a block takes some of them, evenly, and the next block
+    /// those beside them.
+    targets: Vec<(u32, Vec<u32>)>,
+}
+
+impl Block {
+    pub fn of(seed: u64, number: u64) -> Block {
+        Block {
+            seed,
+            number,
+            targets: code_targets(seed.wrapping_add(number * BLOCK)),
+        }
+    }
+
+    pub fn specimen(&self, number: u64) -> Specimen {
+        let seed = self.seed.wrapping_add(number);
+        match number % OF_TWENTY {
+            0..=7 => Specimen {
+                kind: Kind::Random,
+                made: "random".to_string(),
+                words: random_image(seed),
+                meant: None,
+            },
+            nth @ 8..=11 => damaged(nth, number, seed),
+            nth @ 12..=13 => self.target(number, nth - 12),
+            _ => {
+                let (family, words) = structured_image(seed);
+                Specimen {
+                    kind: Kind::Structured,
+                    made: FAMILIES[family].to_string(),
+                    words,
+                    meant: Some(0),
+                }
+            }
+        }
+    }
+
+    fn target(&self, number: u64, nth: u64) -> Specimen {
+        let taken = BLOCK / OF_TWENTY * TARGETS_OF_TWENTY;
+        let nth = number % BLOCK / OF_TWENTY * TARGETS_OF_TWENTY + nth;
+        let length = self.targets.len() as u64;
+        let (code, words) = &self.targets[((nth * length / taken + self.number) % length) as usize];
+        Specimen {
+            kind: Kind::ForACode,
+            made: format!("for code {code}"),
+            words: words.clone(),
+            meant: Some(*code),
+        }
+    }
+}
+
+/// Every fourth out of a structured image.
+fn damaged(nth: u64, number: u64, seed: u64) -> Specimen {
+    let times = [1, 1, 2, 3][(nth - 8) as usize];
+    let mut words = match number / OF_TWENTY % 4 {
+        0 => structured_image(seed).1,
+        _ => random_image(seed),
+    };
+    damage(&mut words, times, seed);
+    Specimen {
+        kind: Kind::Damaged,
+        made: format!("damages: {times}"),
+        words,
+        meant: None,
+    }
+}
+
+/// All that is asked about an image besides the check: two cuttings, and of eight
+/// images one for the refusals 11 and 12. A refused image is asked for more than one
+/// band.
+pub fn asking_about(words: Vec<u32>, number: u64, seed: u64) -> Asking {
+    let mut asking = Asking::about(words, seed.wrapping_add(number), MOST_LENT);
+    asking.ask_two_cuttings(number);
+    if !asking.subject.is_painted() {
+        asking.ask_for_no_row();
+    } else if number % 8 == 1 {
+        asking.ask_beyond();
+        asking.ask_short_of_room();
+    }
+    asking
+}
