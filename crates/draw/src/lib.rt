@@ -17,10 +17,9 @@ use window::Lent;
 use window::Paint;
 use window::Tint;
 
-// With what an edge is drawn, and where: no more of an edge than its ink depends on.
+// With what an edge is drawn, and where: no more of an edge than its ink depends on. The window stands first: behind a byte, copies of it would begin at an odd
+// place, and wait for what was stored before.
 pub struct Pen {
-    // which planes are lent
-    pub lent: Lent,
     // the rows that are painted
     pub window: Window,
     // the edge's number: its index and 1
@@ -31,6 +30,8 @@ pub struct Pen {
     pub weight: Weight,
     // whether its arrows are dashed: "Reversed .. makes arrows dashed"
     pub dashed: bool,
+    // which planes are lent
+    pub lent: Lent,
 }
 
 // "Strokes and markers of an edge write its colour and stamp its index + 1"

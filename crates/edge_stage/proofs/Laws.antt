@@ -1,7 +1,7 @@
 -- The stage of edges: one after the other, one painted or passed over, and how many runs it keeps at most.
 use native.Mathlib.Omega.{arith}
 use native.Mathlib.Nat.{zero-add}
-use Prim.Native.Nat.{ℕ, _+_, _≤_, _<_}
+use Prim.Native.Nat.{ℕ, zero, suc, _+_, _-_, _≤_, _<_}
 use mathlib.Core.Bool.{Bool, true, false, not}
 use mathlib.Core.List.{List, [], _∷_, _++_, append-nil}
 use mathlib.Core.Path.{_≡_, refl, sym, ap, _∙_, subst}
@@ -38,7 +38,7 @@ use Rattle.draw.specs.declared.Pen.{Pen}
 use Rattle.draw.specs.Drawn.{edgeOf, penOf, piecesWrites, piecesRuns, Drawing, Drawn}
 use Rattle.draw.proofs.Laws.{untouched-pieces, same-spots, same-runs}
 use Rattle.picture.specs.Writes.{edgeWrites, edges, runsOfEdge, runs}
-use Rattle.stage.specs.Staged.{Staged}
+use Rattle.stage.specs.Staged.{Staged, Unmarked}
 use Rattle.stage.proofs.Laws.{unmarked-touches}
 use Rattle.edge_stage.specs.Laid.{laying, Laid, Layable}
 
@@ -147,6 +147,38 @@ edge-passed image ts v marks ranges k number marked a staged there n m f room =
     let points = pointsOf image (ts .points) (e .path) in
     let none = unmarked-touches image ts v marks ranges kind.Edge number k marked staged there n m f in
     edge-drawn image ts v ranges k a a Cells pen e points (untouched-pieces pen ranges (pieces e points) a (λ y p q. pen-touches Cells v (k + 1) e (pieces e points) y (none y p q)) room) refl refl refl
+
+-- Edges passed over.
+
+edges-pass :
+    (image : List ℕ) (ts : Tables) (v : Window) (ranges : List ℕ) (k : ℕ) (a b : Drawing) → LaidTo image ts v ranges k a b → (d : ℕ) →
+    ((i : ℕ) → k ≤ i → i < k + d → Laid v ranges (edgeWrites image ts i) (runsOfEdge image ts i) b b) →
+    LaidTo image ts v ranges (k + d) a b
+edges-pass image ts v ranges k a b laid zero none = let e : k + 0 ≡ k = omega arith in rw e laid
+edges-pass image ts v ranges k a b laid (suc d) none =
+    let e : k + suc d ≡ (k + d) + 1 = omega arith in
+    rw e
+    (laid-again image ts v ranges (k + d) a b b
+    (edges-pass image ts v ranges k a b laid d (λ i p q. none i p (omega arith)))
+    (none (k + d) (omega arith) (omega arith)))
+
+-- an edge, and those after it that are not marked
+pub edges-next :
+    (image : List ℕ) (ts : Tables) (v : Window) (marks ranges : List ℕ) (number k next : ℕ) (a b c : Drawing) →
+    Staged image ts v marks ranges →
+    k + 1 ≤ next → next ≤ ts .edges .count →
+    number ≡ elementKindNumber kind.Edge →
+    Unmarked marks number (k + 1) next →
+    LaidTo image ts v ranges k a b →
+    Laid v ranges (edgeWrites image ts k) (runsOfEdge image ts k) b c →
+    c .kept ≤ runRoom (c .scratch) →
+    LaidTo image ts v ranges next a c
+edges-next image ts v marks ranges number k next a b c staged p q n none left d room =
+    let e : (k + 1) + (next - (k + 1)) ≡ next = omega arith in
+    let l =
+        edges-pass image ts v ranges (k + 1) a c (laid-again image ts v ranges k a b c left d) (next - (k + 1))
+        (λ i f t. edge-passed image ts v marks ranges i number false c staged (omega arith) n (rw (none .none i f (omega arith))) refl room) in
+    rw e at l
 
 -- The runs on rows of a window are counted.
 

@@ -76,6 +76,7 @@ pub fn lay_edges(
     requires { ⌜ Staged (now image) ts v (now marks) (now ranges) × Layable lent v (now cells) (now colours) (now stamps) (now scratch) 0 × (ts .edges .count ≤ maxThings) ⌝ }
     ensures { λ r. ⌜ Laid v (now (ranges .entry)) (edges (now (image .entry)) ts) (runs (now (image .entry)) ts) (laying lent (now (cells .entry)) (now (colours .entry)) (now (stamps .entry)) (now (scratch .entry)) 0) (laying lent (now (cells .exit)) (now (colours .exit)) (now (stamps .exit)) (now (scratch .exit)) r) ⌝ }
 {
+    let kind = image::element_kind_number(ElementKind::Edge);
     let count = ts.edges.count;
     let mut kept: usize = 0;
     let mut k: usize = 0;
@@ -94,7 +95,7 @@ pub fn lay_edges(
             kept,
             k,
         );
-        k += 1;
+        k = stage::next_marked(marks, kind, k + 1, count);
     }
     kept
 }

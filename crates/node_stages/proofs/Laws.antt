@@ -34,8 +34,8 @@ use Rattle.window.specs.Window.{inkWindow}
 use Rattle.window.proofs.Rows.{within}
 use Rattle.window.proofs.Theorems.{ink-none, untouched}
 use Rattle.picture.specs.Writes.{edgeLabelGlyphs, writesOfLabel, placedLabelWrites, nodeWrites}
-use Rattle.stage.specs.Staged.{Staged}
-use Rattle.stage.proofs.Laws.{unmarked-touches}
+use Rattle.stage.specs.Staged.{Staged, stageLeft, Unmarked}
+use Rattle.stage.proofs.Laws.{unmarked-touches, stage-next}
 
 -- all glyphs of a placed label stand on its row
 label-off :
@@ -128,3 +128,17 @@ module _ (image : List ℕ) (ts : Tables) (v : Window) (marks ranges : List ℕ)
       unfolding placedLabelSpots
       label-painted x y glyphs d allowed x-is y-is g inked =
           rw (← writes-of, present, ← s, ← asked, allowed, ← staged .read, ← g, ← x-is, ← y-is) inked
+
+-- a node, and those after it that are not marked
+pub nodes-next :
+    (image : List ℕ) (ts : Tables) (v : Window) (marks ranges : List ℕ) (number k next : ℕ) (c after whole : Canvas) →
+    Staged image ts v marks ranges →
+    k < ts .nodes .count → k + 1 ≤ next → next ≤ ts .nodes .count →
+    number ≡ elementKindNumber kind.Node →
+    Unmarked marks number (k + 1) next →
+    stageLeft v ranges (nodeWrites image ts) k (ts .nodes .count) c ≡ whole →
+    after ≡ inkWindow v ranges (nodeWrites image ts k) c →
+    stageLeft v ranges (nodeWrites image ts) next (ts .nodes .count) after ≡ whole
+nodes-next image ts v marks ranges number k next c after whole staged h p q n none left d =
+    stage-next v ranges (nodeWrites image ts) (ts .nodes .count) k next c after whole h p q left d
+    (λ i there a b. node-passed image ts v marks ranges staged i number false after there n (rw (none .none i a b)) refl)

@@ -164,10 +164,11 @@ pub fn paint_nodes(
     requires { ⌜ Staged (now image) ts v (now marks) (now ranges) × Ready lent v (now cells) (now colours) (now stamps) ⌝ }
     ensures { λ _. ⌜ canvasOf lent (now (cells .exit)) (now (colours .exit)) (now (stamps .exit)) ≡ inkWindow v (now (ranges .entry)) (nodes (now (image .entry)) ts) (canvasOf lent (now (cells .entry)) (now (colours .entry)) (now (stamps .entry))) ⌝ }
 {
+    let kind = image::element_kind_number(ElementKind::Node);
     let count = ts.nodes.count;
     let mut k: usize = 0;
     while k < count {
         paint_node(image, ts, v, lent, ranges, marks, cells, colours, stamps, k);
-        k += 1;
+        k = stage::next_marked(marks, kind, k + 1, count);
     }
 }

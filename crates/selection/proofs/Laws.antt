@@ -1,4 +1,4 @@
--- The walk that marks things: a turn, and its end.
+-- The walk that marks things: how far it goes, a turn, and its end.
 use native.Mathlib.Omega.{arith}
 use Prim.Native.Nat.{ℕ, zero, suc, _+_, _-_, _≤_, _<_}
 use mathlib.Core.List.{List}
@@ -11,7 +11,7 @@ use Rattle.layout.specs.declared.Tables.{Tables}
 use Rattle.layout.specs.Layout.{elementKinds, maxThings}
 use Rattle.elements.specs.Elements.{kindOf, indexOf, firstRow, lastRow}
 use Rattle.elements.specs.Slots.{slotCount, elementSlot, ElementsGood}
-use Rattle.selection.specs.Selection.{Marked, markElement, Walkable}
+use Rattle.selection.specs.Selection.{Marked, markElement, Walkable, BelowFrom}
 
 -- a thing's slot is there
 slot-there : (image : List ℕ) (ts : Tables) (k : ℕ) → ElementsGood image ts → k < ts .elements .count → elementSlot image ts k < slotCount
@@ -92,31 +92,34 @@ module _ (image : List ℕ) (ts : Tables) (top end : ℕ) (marks : List ℕ) whe
         (λ p. rw (lt-leb _ _ p) (marked-past p))
         (λ p. rw (le-leb _ _ p) (marked-set (omega (arith, slot-there image ts k (w .good) h)))))
 
-    -- the end: every element was looked at, or this one and so all after it begin below the window
-
-    later : Walkable image ts → end ≤ firstRow image ts k → (d : ℕ) → k + d < ts .elements .count → end ≤ firstRow image ts (k + d)
-    later w h zero g = let e : k + 0 ≡ k = omega arith in rw e h
-    later w h (suc d) g =
-        let e : k + suc d ≡ suc (k + d) = omega arith in
-        let i = later w h d (omega arith) in
-        let o : firstRow image ts (k + d) ≤ firstRow image ts (suc (k + d)) = w .order .1 (k + d) (omega arith) in
-        rw e (omega arith)
-
-    pub marked-stop :
-        (word first : ℕ) → Walkable image ts → word ≡ firstRow image ts k → first ≡ word → end ≤ first →
-        Marked image ts top end marks (ts .elements .count)
-    marked-stop word first w e d g = record { mark = all }
+    -- the end: all after those that were looked at begin below the window
+    pub marked-done : (n : ℕ) → BelowFrom image ts end n → n ≤ k → Marked image ts top end marks (ts .elements .count)
+    marked-done n below h = record { mark = all }
       where
-        h : end ≤ firstRow image ts k
-        h = rw (d, e) at g
-
         all : (j : ℕ) → j < ts .elements .count → firstRow image ts j < end → top ≤ lastRow image ts j → getD marks (elementSlot image ts j) 0 ≡ 1
-        all j g below reaches =
+        all j g above reaches =
             by-order j k
-            (λ p. so .mark j p below reaches)
-            (λ p. let e : k + (j - k) ≡ j = omega arith in
-            let l : end ≤ firstRow image ts j = rw e at (later w h (j - k) (omega arith)) in
-            absurd (omega arith))
+            (λ p. so .mark j p above reaches)
+            (λ p. absurd (omega (arith, below j (omega arith) g)))
 
-    pub marked-done : ts .elements .count ≤ k → Marked image ts top end marks (ts .elements .count)
-    marked-done h = record { mark = λ j g. so .mark j (omega arith) }
+-- Halving: where one element begins below the window, all after it do.
+module _ (image : List ℕ) (ts : Tables) (end : ℕ) where
+  pub below-none : BelowFrom image ts end (ts .elements .count)
+  below-none k h g = absurd (omega arith)
+
+  pub below-here : (middle word first : ℕ) → Walkable image ts → word ≡ firstRow image ts middle → first ≡ word → end ≤ first → BelowFrom image ts end middle
+  below-here middle word first w e d h k from there =
+      let i : middle + (k - middle) ≡ k = omega arith in
+      let l = later (k - middle) (omega arith) in
+      rw i at l
+    where
+      here : end ≤ firstRow image ts middle
+      here = rw (d, e) at h
+
+      later : (d : ℕ) → middle + d < ts .elements .count → end ≤ firstRow image ts (middle + d)
+      later zero g = let i : middle + 0 ≡ middle = omega arith in rw i here
+      later (suc n) g =
+          let i : middle + suc n ≡ suc (middle + n) = omega arith in
+          let l = later n (omega arith) in
+          let o : firstRow image ts (middle + n) ≤ firstRow image ts (suc (middle + n)) = w .order .1 (middle + n) (omega arith) in
+          rw i (omega arith)

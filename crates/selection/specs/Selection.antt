@@ -31,6 +31,10 @@ pub record Walkable (image : List ℕ) (ts : Tables) : Type 0 where
   pub good : ElementsGood image ts
   pub order : Ordered image ts
 
+-- from element n on all begin below the window
+abbrev pub BelowFrom : List ℕ → Tables → ℕ → ℕ → Type 0
+BelowFrom image ts end n = (k : ℕ) → n ≤ k → k < ts .elements .count → end ≤ firstRow image ts k
+
 -- a thing that is not marked touches no row of the window
 pub record Selected (image : List ℕ) (ts : Tables) (v : Window) (marks : List ℕ) : Type 0 where
   pub unmarked :
