@@ -171,13 +171,14 @@ pub edges-next :
     Unmarked marks number (k + 1) next →
     LaidTo image ts v ranges k a b →
     Laid v ranges (edgeWrites image ts k) (runsOfEdge image ts k) b c →
-    c .kept ≤ runRoom (c .scratch) →
     LaidTo image ts v ranges next a c
-edges-next image ts v marks ranges number k next a b c staged p q n none left d room =
+edges-next image ts v marks ranges number k next a b c staged p q n none left d =
+    let long = d .waiting .long in
+    let room : c .kept ≤ runRoom (c .scratch) = rw long (d .waiting .room) in
     let e : (k + 1) + (next - (k + 1)) ≡ next = omega arith in
     let l =
-        edges-pass image ts v ranges (k + 1) a c (laid-again image ts v ranges k a b c left d) (next - (k + 1))
-        (λ i f t. edge-passed image ts v marks ranges i number false c staged (omega arith) n (rw (none .none i f (omega arith))) refl room) in
+    edges-pass image ts v ranges (k + 1) a c (laid-again image ts v ranges k a b c left d) (next - (k + 1))
+    (λ i f t. edge-passed image ts v marks ranges i number false c staged (omega arith) n (rw (none .none i f (omega arith))) refl room) in
     rw e at l
 
 -- The runs on rows of a window are counted.

@@ -32,7 +32,7 @@ loop-again c = (
   search needs,
   search needs,
   search (layable-after, needs),
-  search (edges-next, layable-after, needs),
+  search (edges-next, needs),
 )
 
 returns : tie.Need-returns Inv-loop μ-loop

@@ -17,7 +17,7 @@ returns c t =
     t
 
 pub is-free-spec : {M : Type 1} → statement M
-is-free-spec = 
+is-free-spec =
     tie.close
     (tie.spec
     (λ c κs. search needs)

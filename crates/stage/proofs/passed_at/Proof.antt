@@ -14,5 +14,5 @@ returns-3 : tie.Need-returns-3
 returns-3 c = (search needs, search needs, search (unmarked-one, needs))
 
 pub passed-at-spec : {M : Type 1} → statement M
-passed-at-spec = 
+passed-at-spec =
     tie.close (tie.spec (λ c κs. search needs) (λ c. search needs) (λ c κs. search needs) returns returns-2 returns-3)
