@@ -1,0 +1,4 @@
+-- Laws that the proofs cite.
+pub mod Parts
+pub mod Numbers
+pub mod Scalars

@@ -1,0 +1,32 @@
+-- `read_more_points` ends. The measure: the bytes that are left.
+use borrow.Author.Needs.{needs}
+use Prim.Native.Nat.{_-_}
+use mathlib.Core.Path.{_≡_}
+use lib.ListN.{length}
+use Rattle.sheetvalues.proofs.values.read_more_points.Statement.{statement}
+use Rattle.sheetvalues.proofs.values.read_more_points.Tie as tie
+
+abbrev Inv-loop : tie.InvT-loop
+Inv-loop line name from draft₀ at₀ draft at = length draft ≡ length draft₀
+
+abbrev μ-loop : tie.MeasureT-loop
+μ-loop line name from draft₀ at₀ draft at = length line - at
+
+pub read-more-points-spec : {M : Type 1} → statement M
+read-more-points-spec =
+    tie.close
+    (tie.spec
+    Inv-loop
+    μ-loop
+    (λ c. search needs)
+    (λ c κs. search needs)
+    (λ c. search needs)
+    (λ c. search needs)
+    (λ c. search needs)
+    (λ c. search needs)
+    (λ c. search needs)
+    (λ c. search needs)
+    (λ c. search needs)
+    (λ c. search needs)
+    (λ c. search needs)
+    (λ c. search needs))
