@@ -7,7 +7,7 @@ ghost use Rattle.layout.specs.Layout.{edgeA, edgeLabelStart, edgeSize};
 ghost use Rattle.layout.specs.Tables.{word};
 ghost use Rattle.header.specs.Words.{inside};
 ghost use Rattle.header.specs.InTurn.{orUnless, orWords, wordsAt};
-ghost use Rattle.edge_rules.specs.Edge.{pathNumber, edgeFlagsGood, pathGood, edgePath, pathRules, labelStartGood, labelCountGood, labelRules, edgeRules};
+ghost use Rattle.edge_rules.specs.Edge.{pathNumber, weightNumber, edgeFlagsGood, pathGood, edgePath, pathRules, labelStartGood, labelCountGood, labelRules, edgeRules};
 use ground::Found;
 use header::four_at_most;
 use header::or_unless;
@@ -22,17 +22,25 @@ pub fn span_good(start: u32, count: u32, held: usize) -> bool
     ground::number(start) + ground::number(count) <= held
 }
 
-fn path_number(flags: u32) -> u32
+// "path 3 bits"
+pub fn path_number(flags: u32) -> u32
     ensures { λ r. ⌜ r ≡ pathNumber flags ⌝ }
 {
     layout::bits(flags, layout::PATH_STEP, layout::PATHS)
+}
+
+// "weight 2"
+pub fn weight_number(flags: u32) -> u32
+    ensures { λ r. ⌜ r ≡ weightNumber flags ⌝ }
+{
+    layout::bits(flags, layout::WEIGHT_STEP, layout::WEIGHTS)
 }
 
 // The path is 0 to 5, the weight 1 to 3, and the spare bits 0.
 fn edge_flags_good(flags: u32) -> bool
     ensures { λ r. ⌜ r ≡ edgeFlagsGood flags ⌝ }
 {
-    let weight = layout::bits(flags, layout::WEIGHT_STEP, layout::WEIGHTS);
+    let weight = weight_number(flags);
     (path_number(flags) <= layout::PATH_SPLINE) & ((0 < weight) & (flags % layout::EDGE_SPARE == 0))
 }
 

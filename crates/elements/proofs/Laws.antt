@@ -64,11 +64,11 @@ lister-more image ts kind index k =
 
 -- Some element names a thing exactly where it has a listing.
 
-abbrev isFound : Found → Bool
+abbrev pub isFound : Found → Bool
 isFound found.None = false
 isFound (found.At k) = true
 
-some-found : (test : ℕ → Bool) (k n : ℕ) → some (numbers k n) test ≡ isFound (firstFrom (λ j. foundIf (test j) j) k n)
+pub some-found : (test : ℕ → Bool) (k n : ℕ) → some (numbers k n) test ≡ isFound (firstFrom (λ j. foundIf (test j) j) k n)
 unfolding some numbers firstFrom
 some-found test k zero = refl
 some-found test k (suc n) = by-bool (test k) (λ t. rw t) (λ t. rw t (some-found test (suc k) n))

@@ -22,7 +22,7 @@ fn is_below(corner: Coordinate) -> bool
 }
 
 // Whether a leg has a corner, and that below 0.
-fn leg_below(e: Edge, offset: u32, leg: Leg) -> bool
+pub fn leg_below(e: Edge, offset: u32, leg: Leg) -> bool
     requires { ⌜ SmallLeg leg ⌝ }
     ensures { λ r. ⌜ r ≡ legBelow (e .«flow_axis») e offset leg ⌝ }
 {

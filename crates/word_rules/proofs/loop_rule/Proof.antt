@@ -1,0 +1,18 @@
+-- `loop_rule` is the rule of a loop coordinate, by the self-loop bit.
+use borrow.Author.Needs.{needs}
+use Rattle.word_rules.proofs.loop_rule.Statement.{statement}
+use Rattle.word_rules.proofs.loop_rule.Tie as tie
+
+returns : tie.Need-returns
+returns c = rw (← c .before .flag .ensures, c .if1 .taken)
+
+returns-2 : tie.Need-returns-2
+returns-2 c = rw (← c .before .flag .ensures, c .if1 .left)
+
+pub loop-rule-spec : {M : Type 1} → statement M
+loop-rule-spec =
+    tie.close
+    (tie.spec
+    (λ c κs. search needs)
+    returns
+    returns-2)
