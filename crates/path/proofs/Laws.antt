@@ -129,7 +129,7 @@ module _ (axis : FlowAxis) (e : Edge) (offset : ℕ) (leg : Leg) where
 
 -- Only a MultiSegment has corners that can lie below 0.
 
-abbrev legless : List ℕ
+abbrev pub legless : List ℕ
 legless = 0 ∷ 1 ∷ 2 ∷ 4 ∷ 5 ∷ []
 
 module _ (p : Path) (e : Edge) (points : List ℕ) where

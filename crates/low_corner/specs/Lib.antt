@@ -1,0 +1,2 @@
+-- Which corner of an edge lies below 0.
+pub mod Low
