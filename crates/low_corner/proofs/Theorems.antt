@@ -47,15 +47,17 @@ low-told Spline e points = refl
 
 -- A coordinate below 0 lies against the axis, by more steps than its start has cells before it.
 
+never : {P : Type 0} → false ≡ true → P
+never h = let z : _≡_ {A = ℕ} 0 1 = cc in absurd (omega arith)
+
 unbelow : (s : Bool) (from steps : ℕ) → isBelow (along s from steps) ≡ true → (s ≡ false) × (from < steps)
 unfolding isBelow
-unbelow true from steps h =
-    let z : _≡_ {A = ℕ} 0 1 = rw (along-with from steps) at h in absurd (omega arith)
-unbelow false from steps h = by-order from steps (λ p. (refl, p)) (λ p. let z : _≡_ {A = ℕ} 0 1 = cc in absurd (omega arith))
+unbelow true from steps h = never (rw (along-with from steps) at h)
+unbelow false from steps h = by-order from steps (λ p. (refl, p)) (λ p. never (rw (along-back from steps p) at h))
 
 both : (a b : Bool) → a && b ≡ true → b ≡ true
 both true b h = h
-both false b h = let z : _≡_ {A = ℕ} 0 1 = cc in absurd (omega arith)
+both false b h = never h
 
 -- whether an edge flows with the axis
 abbrev pub signOn : FlowAxis → Edge → Bool
@@ -67,5 +69,5 @@ pub low-lies :
     (axis : FlowAxis) (e : Edge) (offset : ℕ) (leg : Leg) → legBelow axis e offset leg ≡ true →
     (signOn axis e ≡ false) × (legStart axis leg < cornerSteps offset leg)
 unfolding legBelow legStart cornerRow cornerColumn
-low-lies Y e offset leg h = unbelow (signY e) (leg .y1) (cornerSteps offset leg) (both _ _ h)
-low-lies X e offset leg h = unbelow (signX e) (leg .x1) (cornerSteps offset leg) (both _ _ h)
+low-lies Y e offset leg h = unbelow (signY e) (leg .y1) (cornerSteps offset leg) (both (not (eqb (leg .x1) (leg .x2))) _ h)
+low-lies X e offset leg h = unbelow (signX e) (leg .x1) (cornerSteps offset leg) (both (not (eqb (leg .y1) (leg .y2))) _ h)

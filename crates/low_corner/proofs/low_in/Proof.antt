@@ -8,7 +8,7 @@ returns : tie.Need-returns
 returns c = low-none _ _ _ (c .match .keys2)
 
 returns-2 : tie.Need-returns-2
-returns-2 c = low-multi _ _ _ _ _ _ (c .before .path .given .1) (c .low-leg .ensures)
+returns-2 c = low-multi _ _ _ _ _ _ (c .before .before .path .given .1) (c .low-leg .ensures)
 
 pub low-in-spec : {M : Type 1} → statement M
 low-in-spec =
