@@ -1,10 +1,10 @@
 // What a refusal of codes 5, 7, 8 or 9 is about: how a width range breaks its rule, which element lists a thing, how an element's rows are out of order, and which rows a thing
 // touches. Each call is told the image and a record's number, and takes any words.
 ghost use mathlib.Core.Path.{_≡_};
-ghost use Prim.Native.Nat.{_<_};
-ghost use Rattle.layout.specs.Fields.{fieldAt};
+ghost use Prim.Native.Nat.{_≤_, _<_};
+ghost use Rattle.layout.specs.Fields.{tableOf, fieldAt};
 ghost use Rattle.layout.specs.Small.{AllSmall};
-ghost use Rattle.layout.specs.Tables.{tablesOf};
+ghost use Rattle.layout.specs.Tables.{tablesOf, field};
 ghost use Rattle.image.specs.Records.{elementAt};
 ghost use Rattle.elements.specs.Elements.{names, listing};
 ghost use Rattle.things.specs.Computed.{Touched};
@@ -18,6 +18,7 @@ use image::ElementKind;
 use layout::FieldName;
 use layout::RANGE_LAST;
 use layout::RANGE_SIZE;
+use layout::RecordKind;
 use layout::Tables;
 use layout::word;
 use rows::Rows;
@@ -27,6 +28,15 @@ pub fn field_at(image: &[u32], place: usize) -> FieldName
     ensures { λ r. ⌜ r ≡ fieldAt (tablesOf (now (image .entry))) place ⌝ }
 {
     layout::field_at(layout::tables_of(image), place)
+}
+
+// What a field of record k of a kind holds.
+pub fn field_of(image: &[u32], kind: RecordKind, k: usize, offset: usize) -> u32
+    requires { ⌜ (k < 4294967296) × (offset ≤ 16) ⌝ }
+    ensures { λ r. ⌜ r ≡ field (now (image .entry)) (tableOf kind (tablesOf (now (image .entry)))) k offset ⌝ }
+{
+    let ts = layout::tables_of(image);
+    layout::field(image, layout::table_of(kind, ts), k, offset)
 }
 
 // How a width range breaks the rule of code 5.

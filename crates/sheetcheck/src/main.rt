@@ -1,272 +1,214 @@
-// Reads a sheet image from standard input and says whether it is accepted, or what is wrong and where, in words that a planner's author can act on.
-ghost use Prim.Native.Nat.{_≤_, _<_};
-ghost use Rattle.layout.specs.Small.{AllSmall};
-ghost use Rattle.sheetcheck.specs.Listed.{FoundBelow};
+// Reads a sheet image from standard input and says whether it is accepted, or what is wrong, where, and what to change, in words that a planner's author can act on.
+ghost use Prim.Native.Nat.{_<_, _≤_};
+use finding::element;
 use ground::Found;
 use image::ElementKind;
-use layout::ELEMENT_FIRST_ROW;
-use layout::ELEMENT_INDEX;
-use layout::ELEMENT_KIND;
-use layout::ELEMENT_LAST_ROW;
+use input::Input;
 use layout::FieldName;
 use layout::HEADER_HEIGHT;
 use layout::HEADER_RUNS;
 use layout::HEADER_WIDTH;
 use layout::MAX_THINGS;
-use layout::RANGE_FIRST;
-use layout::RANGE_LAST;
 use layout::RecordKind;
-use layout::Tables;
 use layout::word;
-use libc::STDIN_FILENO;
-use rows::Rows;
 
+mod faults;
 mod names;
 mod say;
+mod words;
 
-// What a word of a record holds and what it may hold.
-fn explain_field(image: &[u32], ts: Tables, place: usize)
-    requires { ⌜ AllSmall ts ⌝ }
-{
-    let at = layout::field_at(ts, place);
-    let FieldName::Record { kind, index, field } = at else {
-        return;
-    };
-    names::record(kind);
-    say::number(index);
-    say::text(b", ");
-    names::field(kind, field);
-    say::count(b": holds ", ground::number(word(image, place)));
-    say::text(b"; may hold ");
-    names::rule(kind, field);
-    say::text(b"\n");
-}
+// More than the records of any table.
+const RECORD_LIMIT: usize = layout::MAX_GLYPHS as usize + 1;
 
-fn explain_header(image: &[u32], place: usize) {
-    say::text(b"header, ");
-    names::header_field(place);
-    say::count(b": holds ", ground::number(word(image, place)));
-    say::text(b"; may hold ");
-    names::header_rule(place);
-    say::text(b"\n");
-}
+// More than the words of any record.
+const FIELD_LIMIT: usize = layout::EDGE_SIZE + 1;
 
-fn explain_short(image: &[u32]) {
-    say::count(b"the image has ", image.len());
-    say::text(b" words; a header has 12\n");
-}
-
-fn explain_length(image: &[u32], place: usize) {
-    say::count(b"the image has ", image.len());
-    say::count(b" words; its header and tables want ", place);
-    say::text(b"\n");
-}
-
-// The record that begins at a place.
-fn record_at(ts: Tables, place: usize)
-    requires { ⌜ AllSmall ts ⌝ }
-{
-    let at = layout::field_at(ts, place);
-    let FieldName::Record { kind, index, field } = at else {
-        return;
-    };
-    names::record(kind);
-    say::number(index);
-}
-
-fn next_word(image: &[u32], place: usize, by: usize) -> usize
-    requires { ⌜ by ≤ 8 ⌝ }
-{
-    if place < 1000000 {
-        ground::number(word(image, place + by))
+fn explain_length(length: usize, wanted: usize) {
+    if length < wanted {
+        say::form(
+            b"the image has % word+; its header and tables want %, which is % more\n",
+            length,
+            wanted,
+            wanted - length,
+            0,
+        );
     } else {
-        0
+        say::form(
+            b"the image has % word+; its header and tables want %, which is % fewer\n",
+            length,
+            wanted,
+            length - wanted,
+            0,
+        );
     }
 }
 
-fn explain_range(image: &[u32], ts: Tables, place: usize)
-    requires { ⌜ AllSmall ts ⌝ }
-{
-    record_at(ts, place);
-    say::count(b": from ", next_word(image, place, RANGE_FIRST));
-    say::count(b" to ", next_word(image, place, RANGE_LAST));
-    say::text(
-        b"; a range has its first at most its last, lies above the range before it, and holds none of 32, 34, 91 and 93\n",
-    );
-}
-
-fn explain_corner(ts: Tables, place: usize)
-    requires { ⌜ AllSmall ts ⌝ }
-{
-    record_at(ts, place);
-    say::text(
-        b": a corner of its path lies below 0; a corner lies 1 cell past the start of its leg, and the start offset further on the first leg\n",
-    );
-}
-
-fn explain_twice(image: &[u32], ts: Tables, place: usize)
-    requires { ⌜ AllSmall ts ⌝ }
-{
-    record_at(ts, place);
-    say::count(b": kind ", next_word(image, place, ELEMENT_KIND));
-    say::count(b", index ", next_word(image, place, ELEMENT_INDEX));
-    say::text(b", which an earlier element lists already; each thing is listed once\n");
-}
-
-fn explain_order(image: &[u32], ts: Tables, place: usize)
-    requires { ⌜ AllSmall ts ⌝ }
-{
-    record_at(ts, place);
-    say::count(b": rows ", next_word(image, place, ELEMENT_FIRST_ROW));
-    say::count(b" to ", next_word(image, place, ELEMENT_LAST_ROW));
-    say::text(
-        b"; the first row is at most the last, and not below the first row of the element before\n",
-    );
-}
-
-// Whether element k lists this thing.
-fn lists(image: &[u32], ts: Tables, k: usize, kind: u32, index: usize) -> bool
-    requires { ⌜ AllSmall ts × (k < 4294967296) ⌝ }
-{
-    let elements = ts.elements;
-    if layout::field(image, elements, k, ELEMENT_KIND) == kind {
-        ground::number(layout::field(image, elements, k, ELEMENT_INDEX)) == index
-    } else {
-        false
-    }
-}
-
-// The element that lists a thing.
-fn listing_of(image: &[u32], ts: Tables, kind: u32, index: usize) -> Found
-    requires { ⌜ AllSmall ts ⌝ }
-    ensures { λ r. ⌜ FoundBelow 4294967296 r ⌝ }
-{
-    let elements = ts.elements;
-    let count = elements.count;
-    let mut k: usize = 0;
-    while k < count {
-        if lists(image, ts, k, kind, index) {
-            return Found::At(k);
-        }
-        k += 1;
-    }
-    Found::None
-}
-
-fn say_rows_listed(image: &[u32], ts: Tables, k: usize)
-    requires { ⌜ AllSmall ts × (k < 4294967296) ⌝ }
-{
-    say::count(b"; element ", k);
-    say::count(
-        b" lists rows ",
-        ground::number(elements::first_row(image, ts, k)),
-    );
-    say::count(b" to ", ground::number(elements::last_row(image, ts, k)));
-    say::text(b"\n");
-}
-
-fn say_listing(image: &[u32], ts: Tables, kind: u32, index: usize)
-    requires { ⌜ AllSmall ts ⌝ }
-{
-    let listing = listing_of(image, ts, kind, index);
-    match listing {
-        Found::None => say::text(b"; no element lists it\n"),
-        Found::At(k) => say_rows_listed(image, ts, k),
-    }
-}
-
-fn say_touched(touched: Rows) {
-    let Rows::From { first, last } = touched else {
-        return;
-    };
-    say::count(b": touches rows of the sheet from ", first);
-    say::count(b" to ", last);
-}
-
-fn explain_thing(image: &[u32], ts: Tables, kind: ElementKind, index: usize)
-    requires { ⌜ AllSmall ts ⌝ }
-{
-    if index < ground::number(MAX_THINGS) {
-        say_touched(things::touched_rows(kind, image, ts, index));
-    }
-    say_listing(image, ts, image::element_kind_number(kind), index);
-}
-
-fn explain_listing(image: &[u32], ts: Tables, place: usize)
-    requires { ⌜ AllSmall ts ⌝ }
-{
-    record_at(ts, place);
-    let at = layout::field_at(ts, place);
-    let FieldName::Record { kind, index, field } = at else {
-        return;
-    };
-    match kind {
-        RecordKind::Node => explain_thing(image, ts, ElementKind::Node, index),
-        RecordKind::Edge => explain_thing(image, ts, ElementKind::Edge, index),
-        _ => explain_thing(image, ts, ElementKind::Subgraph, index),
-    }
-}
-
-fn explain_runs(image: &[u32], ts: Tables)
-    requires { ⌜ AllSmall ts ⌝ }
-{
-    say::count(
-        b"header, run capacity: holds ",
-        ground::number(word(image, HEADER_RUNS)),
-    );
+fn explain_runs(image: &[u32]) {
+    let ts = layout::tables_of(image);
     let edges = ts.edges;
     if edges.count <= ground::number(MAX_THINGS) {
-        say::count(b"; the image has ", things::run_count(image, ts));
-        say::text(b" runs on rows of the sheet");
+        say::form(
+            b"header, run capacity: holds %; must be at least %, the number of runs on rows of the sheet\n",
+            ground::number(word(image, HEADER_RUNS)),
+            things::run_count(image, ts),
+            0,
+            0,
+        );
+    }
+}
+
+// Element k, which lists a thing that is listed already.
+fn explain_twice(image: &[u32], k: usize)
+    requires { ⌜ k < 4294967296 ⌝ }
+{
+    let listed = element(image, k);
+    let kind = listed.kind;
+    let number = image::element_kind_number(kind);
+    let lister = finding::lister_of(image, number, ground::number(listed.index));
+    faults::twice(number, listed.index, lister);
+}
+
+// Element k, whose rows are out of order.
+fn explain_order(image: &[u32], k: usize)
+    requires { ⌜ k < 4294967296 ⌝ }
+{
+    let own = element(image, k);
+    let order = finding::order_faults(image, k);
+    faults::order(own.first_row, own.last_row, order, k);
+}
+
+// How a thing is listed.
+fn explain_listing(image: &[u32], kind: ElementKind, index: usize) {
+    let lister = finding::lister_of(image, image::element_kind_number(kind), index);
+    let Found::At(k) = lister else {
+        say::text(b"; no element lists it, and one must list both");
+        return;
+    };
+    if k < RECORD_LIMIT {
+        let own = element(image, k);
+        faults::listed(k, own.first_row, own.last_row);
+    }
+}
+
+// A thing that touches a row which its listing lacks.
+fn explain_thing(image: &[u32], kind: ElementKind, index: usize)
+    requires { ⌜ index < 4294967296 ⌝ }
+{
+    faults::touched(finding::touched(image, kind, index));
+    explain_listing(image, kind, index);
+}
+
+// What breaks code 9, by its table.
+fn explain_touched(image: &[u32], kind: RecordKind, index: usize)
+    requires { ⌜ index < 4294967296 ⌝ }
+{
+    match kind {
+        RecordKind::Node => explain_thing(image, ElementKind::Node, index),
+        RecordKind::Edge => explain_thing(image, ElementKind::Edge, index),
+        _ => explain_thing(image, ElementKind::Subgraph, index),
+    }
+}
+
+// Record k of a kind, of which this field breaks code 4 or which breaks another code.
+fn explain_record(image: &[u32], code: u32, kind: RecordKind, k: usize, field: usize)
+    requires { ⌜ (k < 4294967296) × (field ≤ 16) ⌝ }
+{
+    say::form(b"~ %", names::kind_number(kind), k, 0, 0);
+    match code {
+        refusals::BAD_FIELD => words::explain(image, kind, k, field),
+        refusals::BAD_RANGE => faults::range(finding::range_faults(image, k), k),
+        refusals::CORNER_BELOW_ZERO => faults::corner(low_corner::low_corner(image, k)),
+        refusals::LISTED_TWICE => explain_twice(image, k),
+        refusals::OUT_OF_ORDER => explain_order(image, k),
+        _ => explain_touched(image, kind, k),
     }
     say::text(b"\n");
 }
 
-fn explain_tables(image: &[u32], code: u32, place: usize) {
-    let ts = layout::tables_of(image);
-    match code {
-        refusals::BAD_FIELD => explain_field(image, ts, place),
-        refusals::BAD_RANGE => explain_range(image, ts, place),
-        refusals::CORNER_BELOW_ZERO => explain_corner(ts, place),
-        refusals::LISTED_TWICE => explain_twice(image, ts, place),
-        refusals::OUT_OF_ORDER => explain_order(image, ts, place),
-        refusals::NOT_LISTED => explain_listing(image, ts, place),
-        _ => explain_runs(image, ts),
+// The record that a refusal's place is in.
+fn explain_place(image: &[u32], code: u32, place: usize) {
+    let at = finding::field_at(image, place);
+    let FieldName::Record { kind, index, field } = at else {
+        return;
+    };
+    if index < RECORD_LIMIT {
+        if field < FIELD_LIMIT {
+            explain_record(image, code, kind, index, field);
+        }
     }
 }
 
 fn explain(image: &[u32], code: u32, place: usize) {
     match code {
-        refusals::TOO_SHORT => explain_short(image),
-        refusals::OVER_LIMIT => explain_header(image, place),
-        refusals::WRONG_LENGTH => explain_length(image, place),
-        _ => explain_tables(image, code, place),
+        refusals::TOO_SHORT => say::form(
+            b"the image has % word+; a header has 12\n",
+            image.len(),
+            0,
+            0,
+            0,
+        ),
+        refusals::OVER_LIMIT => words::explain_header(place, word(image, place)),
+        refusals::WRONG_LENGTH => explain_length(image.len(), place),
+        refusals::TOO_MANY_RUNS => explain_runs(image),
+        _ => explain_place(image, code, place),
     }
 }
 
 fn report(image: &[u32]) {
     let answer = refusals::check(image);
     if answer.code == 0 {
-        say::accepted(
-            word(image, HEADER_WIDTH),
-            word(image, HEADER_HEIGHT),
+        say::form(
+            b"accepted width % height % runs %\n",
+            ground::number(word(image, HEADER_WIDTH)),
+            ground::number(word(image, HEADER_HEIGHT)),
             answer.runs,
+            0,
         );
     } else {
-        say::refused(answer.code, answer.place);
+        say::form(
+            b"refused % %\n",
+            ground::number(answer.code),
+            answer.place,
+            0,
+            0,
+        );
         explain(image, answer.code, answer.place);
     }
 }
 
+fn unreadable() {
+    say::text(b"unread\nthe input cannot be read; standard input may be closed, or a folder\n");
+}
+
+fn too_long() {
+    say::text(
+        b"unread\nthe input has over 327728 bytes; an image has at most 81932 words, of four bytes each\n",
+    );
+}
+
+fn broken_word(got: usize) {
+    say::form(
+        b"unread\nthe input has % byte+, no whole number of words; a word has four bytes\n",
+        got,
+        0,
+        0,
+        0,
+    );
+}
+
 // Reads an image and reports on it. The lent bytes have room for one more than the largest image has: where they are filled the input is longer, and is never taken for a whole one.
 fn report_input(bytes: &mut [u8], words: &mut [u32]) {
-    let got = io::read_full(STDIN_FILENO, bytes);
-    if got == bytes.len() {
-        say::too_long();
+    let came = input::read_all(bytes);
+    let Input::Bytes(got) = came else {
+        unreadable();
+        return;
+    };
+    if bytes.len() <= got {
+        too_long();
         return;
     }
     if got % 4 != 0 {
-        say::broken(got);
+        broken_word(got);
         return;
     }
     let count = wordfile::fill(&bytes[..got], words);

@@ -5,6 +5,9 @@ use borrow.Author.Needs.{needs}
 use Rattle.sheetcheck.proofs.report_input.Statement.{statement}
 use Rattle.sheetcheck.proofs.report_input.Tie as tie
 
+slice-aggregate-fill : tie.Need-slice-aggregate-fill
+slice-aggregate-fill c = sym (length-take-le _ _ (search needs))
+
 slice-aggregate-report : tie.Need-slice-aggregate-report
 slice-aggregate-report c = sym (length-take-le _ _ (search needs))
 
@@ -13,6 +16,11 @@ report-input-spec =
     tie.close
     (tie.spec
     (λ c κs. search needs)
+    (λ c. search needs)
+    (λ c. search needs)
+    (λ c κs. search needs)
+    (λ c. search needs)
+    (λ c. search needs)
     (λ c κs. search needs)
     (λ c. search needs)
     (λ c. search needs)
@@ -20,7 +28,7 @@ report-input-spec =
     (λ c. search needs)
     (λ c. search needs)
     (λ c. search needs)
-    (λ c. search needs)
+    slice-aggregate-fill
     (λ c κs. search needs)
     (λ c. search needs)
     slice-aggregate-report

@@ -1,18 +1,18 @@
--- `nth` stays inside the names. The measure: the names that are left to pass.
+-- `part` stays inside the parts. The measure: the parts that are left to pass.
 use Prim.Native.Nat.{_≤_}
 use lib.ListN.{length}
 use borrow.Author.Needs.{needs}
-use Rattle.sheetcheck.proofs.say.nth.Statement.{statement}
-use Rattle.sheetcheck.proofs.say.nth.Tie as tie
+use Rattle.sheetcheck.proofs.say.part.Statement.{statement}
+use Rattle.sheetcheck.proofs.say.part.Tie as tie
 
 abbrev Inv-loop : tie.InvT-loop
-Inv-loop names number from₀ left₀ from left = from ≤ length names
+Inv-loop parts bar number from₀ left₀ from left = from ≤ length parts
 
 abbrev μ-loop : tie.MeasureT-loop
-μ-loop names number from₀ left₀ from left = left
+μ-loop parts bar number from₀ left₀ from left = left
 
-pub nth-spec : {M : Type 1} → statement M
-nth-spec =
+pub part-spec : {M : Type 1} → statement M
+part-spec =
     tie.close
     (tie.spec
     Inv-loop
@@ -24,9 +24,11 @@ nth-spec =
     (λ c. search needs)
     (λ c. search needs)
     (λ c. search needs)
-    (λ c κs. search needs)
     (λ c. search needs)
     (λ c. search needs)
     (λ c. search needs)
     (λ c κs. search needs)
+    (λ c. search needs)
+    (λ c. search needs)
+    (λ c. search needs)
     (λ c. search needs))

@@ -1,2 +1,0 @@
--- What is known of a place that was found.
-pub mod Listed
