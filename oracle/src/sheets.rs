@@ -255,7 +255,7 @@ pub fn growths() -> Vec<Growth> {
             staircase(MULTI_SEGMENT, n)
         }),
         ("points, Orthogonal", POINTS, |n| staircase(ORTHOGONAL, n)),
-        ("glyphs without ink", GLYPHS, inkless_glyphs),
+        ("glyphs, one with ink", GLYPHS, inkless_glyphs),
         ("width ranges", WIDTH_RANGES, width_ranges),
     ];
     let grown = |(what, table, made): (_, usize, fn(u32) -> Draft)| {
@@ -391,12 +391,14 @@ fn elements(count: u32) -> Draft {
     draft
 }
 
-/// One subgraph's label whose glyphs all have width 0: every one is looked at.
+/// One subgraph's label whose glyphs have width 0, all but the last: every one is looked
+/// at, and the subgraph is painted.
 fn inkless_glyphs(count: u32) -> Draft {
     let mut draft = Draft::blank_sheet(200, GROWTH_ROWS);
     draft.add(WIDTH_RANGES, &COMBINING_RANGE);
-    for _ in 0..count {
-        draft.add(GLYPHS, &[COMBINING]);
+    for nth in 0..count {
+        let is_last = nth + 1 == count;
+        draft.add(GLYPHS, &[if is_last { 0x41 } else { COMBINING }]);
     }
     draft.add(SUBGRAPHS, &[5, 5, 30, 5, 0, count, 0, 0]);
     draft
