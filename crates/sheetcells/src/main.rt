@@ -1,17 +1,17 @@
 // Prints the cells of one sheet. An image of at most 16,384 words is read from standard input; a line with width, height and run count is printed, then a line for
-// each row. What the check refuses, and a scratch of 16,384 words that does not do, is printed with code and place; an input that is longer, or ends inside a
-// word, as `unread`.
+// each row. What the check refuses, and a scratch of 16,384 words that does not do, is printed with code and place; an input that is longer, ends inside a
+// word or cannot be read, as `unread`.
 ghost use mathlib.Core.Path.{_≡_};
 ghost use Prim.Native.Nat.{_+_, _*_, _≤_, _<_};
 ghost use lib.ListN.{length};
 ghost use Rattle.layout.specs.Layout.{maxWidth};
 ghost use Rattle.refusals.specs.Accepted.{Keeps};
 ghost use Rattle.sheetcells.specs.Bands.{bandRows, bandCells};
+use input::Input;
 use layout::HEADER_HEIGHT;
 use layout::HEADER_WIDTH;
 use layout::MAX_WIDTH;
 use layout::word;
-use libc::STDIN_FILENO;
 
 mod say;
 
@@ -103,8 +103,12 @@ fn print_image(image: &[u32]) {
 
 // The lent bytes have room for one more than the largest image has: where they are filled the input is longer, and is never taken for a whole one.
 fn print_input(bytes: &mut [u8], words: &mut [u32]) {
-    let got = io::read_full(STDIN_FILENO, bytes);
-    if got == bytes.len() {
+    let came = input::read_all(bytes);
+    let Input::Bytes(got) = came else {
+        say::unread();
+        return;
+    };
+    if bytes.len() <= got {
         say::unread();
         return;
     }
