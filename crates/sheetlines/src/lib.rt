@@ -1,6 +1,4 @@
 // The lines of a sheet's text: a record each, with its fields in any order.
-ghost use Prim.Native.Nat.{_≤_};
-ghost use lib.ListN.{length};
 use ground::Found;
 use layout::RecordKind;
 use layout::word;
@@ -184,21 +182,6 @@ fn read_line(line: &[u8], draft: &mut [u32]) -> Step {
     }
 }
 
-// Where the line that begins at a place ends.
-fn line_end(text: &[u8], from: usize) -> usize
-    requires { ⌜ from ≤ length (now text) ⌝ }
-    ensures { λ r. ⌜ (from ≤ r) × (r ≤ length (now (text .entry))) ⌝ }
-{
-    let mut at = from;
-    while at < text.len() {
-        if text[at] == b'\n' {
-            return at;
-        }
-        at += 1;
-    }
-    at
-}
-
 // What came of reading a text.
 pub enum Outcome {
     // every line was read
@@ -223,7 +206,7 @@ pub fn read_text(text: &[u8], draft: &mut [u32]) -> Outcome {
     let mut at: usize = 0;
     let mut line: usize = 1;
     while at < text.len() {
-        let end = line_end(text, at);
+        let end = token::end_of(text, at, b'\n');
         let step = read_line(sheettext::part(text, at, end), draft);
         if let Step::Wrong(fault) = step {
             return Outcome::Unread {

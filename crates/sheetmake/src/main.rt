@@ -1,8 +1,6 @@
 // Writes a sheet image. A text with a record on each line is read from standard input, and the image's words are written to standard output, four bytes
 // each, the most significant first. Where a line cannot be read nothing is written there: which line, what stands there and what was expected is said on
 // standard error. The text's form is in docs/SHEETMAKE.md.
-ghost use Prim.Native.Nat.{_≤_};
-ghost use lib.ListN.{length};
 use input::Input;
 use layout::word;
 use libc::STDOUT_FILENO;

@@ -1,5 +1,5 @@
 // What is said on standard error.
-ghost use Prim.Native.Nat.{_≤_, _<_};
+ghost use Prim.Native.Nat.{_<_};
 ghost use lib.ListN.{length};
 use layout::RecordKind;
 use libc::STDERR_FILENO;
@@ -7,9 +7,10 @@ use sheettext::part;
 use sheetvalues::fault::Expected;
 use sheetvalues::fault::Fault;
 use sheetwords::names;
+use sheetwords::names::BAR;
 use sheetwords::names::Choice;
 use sheetwords::names::Record;
-use sheetwords::names::name_end;
+use sheetwords::token::end_of;
 
 fn text(words: &[u8]) {
     io::write_all(STDERR_FILENO, words);
@@ -24,7 +25,7 @@ fn between(names: &[u8], end: usize)
     requires { ⌜ end < length (now names) ⌝ }
 {
     let next = end + 1;
-    if name_end(names, next) == names.len() {
+    if end_of(names, next, BAR) == names.len() {
         text(b" or ");
     } else {
         text(b", ");
@@ -35,7 +36,7 @@ fn between(names: &[u8], end: usize)
 fn listed(all: &[u8]) {
     let mut from: usize = 0;
     while from < all.len() {
-        let end = name_end(all, from);
+        let end = end_of(all, from, BAR);
         text(part(all, from, end));
         if end < all.len() {
             if from < end {

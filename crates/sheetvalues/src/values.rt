@@ -1,6 +1,4 @@
 // The values of fields: read off a line, and written into the draft.
-ghost use Prim.Native.Nat.{_≤_};
-ghost use lib.ListN.{length};
 use crate::fault::Expected;
 use crate::fault::Fault;
 use crate::fault::Step;

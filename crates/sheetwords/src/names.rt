@@ -1,6 +1,5 @@
 // The words of the text: records, their fields, and the words that a field may hold.
-ghost use Prim.Native.Nat.{_≤_};
-ghost use lib.ListN.{length};
+use crate::token::end_of;
 use ground::Found;
 use layout::RecordKind;
 use sheettext::byte_at;
@@ -74,20 +73,8 @@ pub const DUMMIES: [u8; 12] = *b"hidden|shown";
 
 pub const LISTS: [u8; 11] = *b"listed|fill";
 
-// Where the name that begins at `from` ends: at a bar, or with the last name.
-pub fn name_end(names: &[u8], from: usize) -> usize
-    requires { ⌜ from ≤ length (now names) ⌝ }
-    ensures { λ r. ⌜ (from ≤ r) × (r ≤ length (now (names .entry))) ⌝ }
-{
-    let mut at = from;
-    while at < names.len() {
-        if names[at] == b'|' {
-            return at;
-        }
-        at += 1;
-    }
-    at
-}
+// What stands between two of them.
+pub const BAR: u8 = b'|';
 
 // Whether two words are the same.
 pub fn same(one: &[u8], other: &[u8]) -> bool {
@@ -109,7 +96,7 @@ fn find(names: &[u8], word: &[u8]) -> Found {
     let mut from: usize = 0;
     let mut number: usize = 0;
     while from < names.len() {
-        let end = name_end(names, from);
+        let end = end_of(names, from, BAR);
         if same(part(names, from, end), word) {
             return Found::At(number);
         }

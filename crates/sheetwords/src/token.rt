@@ -124,3 +124,18 @@ pub fn next(line: &[u8], from: usize) -> Token {
 pub fn bytes(line: &[u8], token: Token) -> &[u8] {
     sheettext::part(line, token.start, token.end)
 }
+
+// Where the part that begins at a place ends: at the first byte of this value, or with the last byte.
+pub fn end_of(bytes: &[u8], from: usize, stop: u8) -> usize
+    requires { ⌜ from ≤ length (now bytes) ⌝ }
+    ensures { λ r. ⌜ (from ≤ r) × (r ≤ length (now (bytes .entry))) ⌝ }
+{
+    let mut at = from;
+    while at < bytes.len() {
+        if bytes[at] == stop {
+            return at;
+        }
+        at += 1;
+    }
+    at
+}
