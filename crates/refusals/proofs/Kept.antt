@@ -27,23 +27,25 @@ use Rattle.fields.proofs.Theorems.{records-iff}
 use Rattle.elements.specs.Elements.{twiceJudged, orderJudged}
 use Rattle.elements.specs.Slots.{ElementsGood, Listed}
 use Rattle.things.specs.Things.{rangesOf}
+use Rattle.controls.specs.Controls.{controlsJudged}
 use Rattle.corners.specs.Corners.{cornersJudged}
 use Rattle.listing.specs.Listing.{listedJudged}
 use Rattle.listing.specs.Computed.{Ready}
 use Rattle.refusals.specs.declared.Verdict.the-variants.{Passed}
 use Rattle.refusals.specs.FirstBroken.{firstBroken}
-use Rattle.refusals.specs.Rules.{tooShort, overLimit, wrongLength, badField, badRange, cornerBelowZero, listedTwice, outOfOrder, notListed, tooManyRuns}
+use Rattle.refusals.specs.Rules.{tooShort, overLimit, wrongLength, badField, badRange, controlCharacter, cornerBelowZero, listedTwice, outOfOrder, notListed, tooManyRuns}
 use Rattle.refusals.specs.Rules.{shortJudged, lengthJudged, rangesJudged, runsJudged, contentRules, formRules, touchRules, listingRules}
 use Rattle.refusals.proofs.FirstBroken.{none-left, kept-first, first-kept}
 use Rattle.refusals.proofs.Accepted.{length-iff, ranges-kept}
 
--- codes 1 to 6 find nothing
+-- codes 1 to 6 and 13 find nothing
 pub record FormKept (image : List ℕ) : Type 0 where
   pub short : firstBad (shortJudged image) ≡ found.None
   pub header : firstBad (headerJudged image) ≡ found.None
   pub wholes : firstBad (lengthJudged image) ≡ found.None
   pub fields : firstBad (recordsJudged image (tablesOf image)) ≡ found.None
   pub ranges : firstBad (rangesJudged image (tablesOf image)) ≡ found.None
+  pub controls : firstBad (controlsJudged image (tablesOf image .glyphs)) ≡ found.None
   pub corners : firstBad (cornersJudged image (tablesOf image)) ≡ found.None
 
 -- codes 7 to 10 find nothing
@@ -62,8 +64,9 @@ module _ (image : List ℕ) where
       let c = kept-first wrongLength (lengthJudged image) _ (b .1) in
       let d = kept-first badField (recordsJudged image (tablesOf image)) _ (c .1) in
       let f = kept-first badRange (rangesJudged image (tablesOf image)) _ (d .1) in
-      let g = kept-first cornerBelowZero (cornersJudged image (tablesOf image)) _ (f .1) in
-      record { short = a .0; header = b .0; wholes = c .0; fields = d .0; ranges = f .0; corners = g .0 }
+      let g = kept-first controlCharacter (controlsJudged image (tablesOf image .glyphs)) _ (f .1) in
+      let h = kept-first cornerBelowZero (cornersJudged image (tablesOf image)) _ (g .1) in
+      record { short = a .0; header = b .0; wholes = c .0; fields = d .0; ranges = f .0; controls = g .0; corners = h .0 }
 
   pub kept-form : FormKept image → firstBroken (formRules image) ≡ Passed
   unfolding formRules contentRules
@@ -73,7 +76,8 @@ module _ (image : List ℕ) where
       (first-kept wrongLength _ _ (k .wholes)
       (first-kept badField _ _ (k .fields)
       (first-kept badRange _ _ (k .ranges)
-      (first-kept cornerBelowZero _ _ (k .corners) (sym none-left))))))
+      (first-kept controlCharacter _ _ (k .controls)
+      (first-kept cornerBelowZero _ _ (k .corners) (sym none-left)))))))
 
 module _ (image : List ℕ) (ts : Tables) where
   pub listing-kept : firstBroken (listingRules image ts) ≡ Passed → ListingKept image ts

@@ -30,12 +30,13 @@ use Rattle.listing.specs.declared.Walk.{Walk}
 use Rattle.things.specs.Things.{runCount}
 use Rattle.listing.specs.Listing.{listedJudged}
 use Rattle.listing.specs.Computed.{Walked}
+use Rattle.controls.specs.Controls.{controlsJudged}
 use Rattle.corners.specs.Corners.{cornersJudged}
 use Rattle.refusals.specs.declared.Answer.{Answer}
 use Rattle.refusals.specs.declared.Verdict.{Verdict}
 use Rattle.refusals.specs.declared.Verdict.the-variants.{Passed, Refused}
 use Rattle.refusals.specs.FirstBroken.{firstBroken, refused, accepted, answerOf}
-use Rattle.refusals.specs.Rules.{tooShort, overLimit, wrongLength, badField, badRange, cornerBelowZero, listedTwice, outOfOrder, notListed, tooManyRuns}
+use Rattle.refusals.specs.Rules.{tooShort, overLimit, wrongLength, badField, badRange, controlCharacter, cornerBelowZero, listedTwice, outOfOrder, notListed, tooManyRuns}
 use Rattle.refusals.specs.Rules.{shortJudged, lengthJudged, rangesJudged, runsJudged, contentRules, formRules, touchRules, listingRules, rules, checked}
 use Rattle.refusals.proofs.FirstBroken.{andThen, broken-append, refuses, passes, none-left, answer-refuses, answer-passes, answer-accepts}
 
@@ -79,7 +80,7 @@ module _ (image : List ℕ) (ts : Tables) (ranges : List ℕ) (broken : Found) (
       let c = small .ranges .count in
       omega arith
 
--- Codes 4 to 6.
+-- Codes 4, 5, 13 and 6.
 
 module _ (image : List ℕ) (ts : Tables) (field : Found) (f : field ≡ firstBad (recordsJudged image ts)) where
   pub content-field : (place : ℕ) → field ≡ found.At place → Refused badField place ≡ firstBroken (contentRules image ts)
@@ -91,16 +92,26 @@ module _ (image : List ℕ) (ts : Tables) (field : Found) (f : field ≡ firstBa
     unfolding contentRules
     content-range place e = passes badField _ _ field f _ n (refuses badRange _ _ range g place e)
 
-    module _ (corner : Found) (h : corner ≡ firstBad (cornersJudged image ts)) (m : range ≡ found.None) where
-      pub content-corner : (place : ℕ) → corner ≡ found.At place → Refused cornerBelowZero place ≡ firstBroken (contentRules image ts)
+    module _ (control : Found) (h : control ≡ firstBad (controlsJudged image (ts .glyphs))) (m : range ≡ found.None) where
+      pub content-control : (place : ℕ) → control ≡ found.At place → Refused controlCharacter place ≡ firstBroken (contentRules image ts)
       unfolding contentRules
-      content-corner place e = passes badField _ _ field f _ n (passes badRange _ _ range g _ m (refuses cornerBelowZero _ _ corner h place e))
+      content-control place e =
+          passes badField _ _ field f _ n (passes badRange _ _ range g _ m (refuses controlCharacter _ _ control h place e))
 
-      pub content-kept : corner ≡ found.None → Passed ≡ firstBroken (contentRules image ts)
-      unfolding contentRules
-      content-kept e = passes badField _ _ field f _ n (passes badRange _ _ range g _ m (passes cornerBelowZero _ _ corner h _ e none-left))
+      module _ (corner : Found) (i : corner ≡ firstBad (cornersJudged image ts)) (l : control ≡ found.None) where
+        pub content-corner : (place : ℕ) → corner ≡ found.At place → Refused cornerBelowZero place ≡ firstBroken (contentRules image ts)
+        unfolding contentRules
+        content-corner place e =
+            passes badField _ _ field f _ n
+            (passes badRange _ _ range g _ m (passes controlCharacter _ _ control h _ l (refuses cornerBelowZero _ _ corner i place e)))
 
--- Codes 1 to 6.
+        pub content-kept : corner ≡ found.None → Passed ≡ firstBroken (contentRules image ts)
+        unfolding contentRules
+        content-kept e =
+            passes badField _ _ field f _ n
+            (passes badRange _ _ range g _ m (passes controlCharacter _ _ control h _ l (passes cornerBelowZero _ _ corner i _ e none-left)))
+
+-- Codes 1 to 6 and 13.
 
 wanted-same : (image : List ℕ) → tableEnd (tablesOf image .ranges) ≡ wantedLength image
 unfolding tablesOf wantedLength

@@ -1,14 +1,14 @@
 -- The check accepts exactly the images that keep every rule, and refuses with the first rule that is broken, at its place.
 use native.Mathlib.Omega.{arith}
 use Prim.Native.Nat.{ℕ, _≤_, _<_}
-use mathlib.Core.Bool.{Bool, true, _&&_}
+use mathlib.Core.Bool.{Bool, true, _&&_, _||_}
 use mathlib.Core.List.{List, _∷_}
-use mathlib.Core.Logic.{_↔_}
+use mathlib.Core.Logic.{_↔_, _⊎_, inl, inr}
 use mathlib.Core.Path.{_≡_, refl, sym, ap, _∙_}
-use lib.Dec.{ltb, leb}
-use borrow.Author.Tests.{ltb-true, leb-true}
+use lib.Dec.{eqb, ltb, leb}
+use borrow.Author.Tests.{ltb-true, leb-true, eqb-true}
 use Rattle.ground.specs.Each.{every}
-use Rattle.ground.proofs.Each.{and-left, and-right, every-append}
+use Rattle.ground.proofs.Each.{by-bool, and-left, and-right, every-append}
 use Rattle.glyph.specs.Ranges.{WidthsRight}
 use Rattle.glyph.proofs.Theorems.{right-widths}
 use Rattle.layout.specs.Tables.{tablesOf}
@@ -16,22 +16,29 @@ use Rattle.header.proofs.Theorems.{header-iff}
 use Rattle.fields.proofs.Theorems.{records-iff}
 use Rattle.elements.proofs.Theorems.{twice-iff, order-iff}
 use Rattle.things.specs.Things.{rangesOf, runCount}
+use Rattle.controls.proofs.Theorems.{controls-iff}
 use Rattle.corners.proofs.Theorems.{corners-iff}
 use Rattle.listing.proofs.Theorems.{listed-iff}
 use Rattle.refusals.specs.declared.Answer.{Answer}
 use Rattle.refusals.specs.declared.Verdict.{Verdict}
 use Rattle.refusals.specs.declared.Verdict.the-variants.{Passed, Refused}
 use Rattle.refusals.specs.FirstBroken.{rule, firstBroken, BrokenFirst, refused, answerOf}
-use Rattle.refusals.specs.Rules.{contentRules, formRules, touchRules, listingRules, rules, checked}
+use Rattle.refusals.specs.Rules.{controlCharacter, contentRules, formRules, touchRules, listingRules, rules, checked}
 use Rattle.refusals.specs.Accepted.{Keeps}
 use Rattle.refusals.proofs.FirstBroken.{andThen, broken-append, broken-first, first-broken}
 use Rattle.refusals.proofs.Kept.{FormKept, ListingKept, form-kept, kept-form, listing-kept, kept-listing}
 use Rattle.refusals.proofs.Accepted.{short-iff, length-iff, runs-iff, ranges-kept, ranges-iff}
 
--- Every code is from 1 to 10.
+-- Every code is from 1 to 10, or 13.
 
 abbrev aCode : ℕ → Bool
-aCode code = ltb 0 code && leb code 10
+aCode code = ltb 0 code && (leb code 10 || eqb code controlCharacter)
+
+abbrev Numbered : ℕ → Type 0
+Numbered code = (code ≤ 10) ⊎ (code ≡ controlCharacter)
+
+numbered : (code : ℕ) → leb code 10 || eqb code controlCharacter ≡ true → Numbered code
+numbered code h = by-bool (leb code 10) (λ t. inl (leb-true _ _ t)) (λ t. inr (eqb-true _ _ (rw t at h)))
 
 codes : (image : List ℕ) → every (rules image) (λ r. aCode (r .code)) ≡ true
 unfolding rules formRules contentRules listingRules touchRules every
@@ -54,14 +61,14 @@ module _ (image : List ℕ) where
   answered v e = rw e
 
   by-verdict :
-      {P : Type 0} → (By Passed → P) → ((code place : ℕ) → By (Refused code place) → 0 < code → code ≤ 10 → P) → P
+      {P : Type 0} → (By Passed → P) → ((code place : ℕ) → By (Refused code place) → 0 < code → Numbered code → P) → P
   by-verdict {P} f g = by (firstBroken (rules image)) refl
     where
       by : (v : Verdict) → By v → P
       by Passed e = f e
       by (Refused code place) e =
           let c = broken-code image code place (broken-first (rules image) code place e) in
-          g code place e (ltb-true 0 code (and-left (ltb 0 code) _ c)) (leb-true code 10 (and-right (ltb 0 code) _ c))
+          g code place e (ltb-true 0 code (and-left (ltb 0 code) _ c)) (numbered code (and-right (ltb 0 code) _ c))
 
   code-of : (code place : ℕ) → By (Refused code place) → checked image .code ≡ code
   code-of code place e = ap (λ (a : Answer). a .code) (answered (Refused code place) e)
@@ -77,9 +84,9 @@ module _ (image : List ℕ) where
   pub passes-accepted : By Passed → checked image .code ≡ 0
   passes-accepted e = ap (λ (a : Answer). a .code) (answered Passed e)
 
-  -- No code is above 10.
-  pub code-at-most-ten : checked image .code ≤ 10
-  code-at-most-ten = by-verdict (λ e. omega (arith, passes-accepted e)) (λ code place e p q. omega (arith, code-of code place e))
+  -- Every code is at most 10, or 13.
+  pub known-code : (checked image .code ≤ 10) ⊎ (checked image .code ≡ controlCharacter)
+  known-code = by-verdict (λ e. inl (omega (arith, passes-accepted e))) (λ code place e p q. rw (code-of code place e) q)
 
   -- An accepted image is answered with place 0 and its run count.
   pub accepted-place : checked image .code ≡ 0 → (checked image .place ≡ 0) × (checked image .runs ≡ runCount image (tablesOf image))
@@ -129,6 +136,7 @@ module _ (image : List ℕ) where
         tables = record {
           fields = records-iff image ts .0 (f .fields);
           ranges = ranges-iff image whole .0 (f .ranges);
+          characters = controls-iff image (ts .glyphs) .0 (f .controls);
           corners = corners-iff image ts .0 (f .corners);
           once = once;
           order = order-iff image ts .0 (l .order);
@@ -146,6 +154,7 @@ module _ (image : List ℕ) where
         wholes = length-iff image .1 (k .whole);
         fields = records-iff image ts .1 (k .tables .fields);
         ranges = ranges-iff image (k .whole) .1 (k .tables .ranges);
+        controls = controls-iff image (ts .glyphs) .1 (k .tables .characters);
         corners = corners-iff image ts .1 (k .tables .corners);
       }
 

@@ -12,6 +12,7 @@ use Rattle.header.specs.Header.{HeaderGood}
 use Rattle.fields.specs.Good.{RecordsGood}
 use Rattle.elements.specs.Elements.{Once, Ordered}
 use Rattle.things.specs.Things.{rangesOf, edgePoints, runCount}
+use Rattle.controls.specs.Controls.{NoControls}
 use Rattle.corners.specs.Corners.{CornersAbove}
 use Rattle.listing.specs.Listing.{AllListed}
 
@@ -21,6 +22,8 @@ pub record KeepsTables (image : List ℕ) (ts : Tables) : Type 0 where
   pub fields : RecordsGood image ts
   -- 5: no range "has first > last, first not above the last before it, or holds 0020, 0022, 005B or 005D"
   pub ranges : (k : ℕ) → k < ts .ranges .count → RangeGood (rangesOf image ts) k
+  -- 13: no glyph is one of "0000 to 001F and 007F to 009F"
+  pub characters : NoControls image (ts .glyphs)
   -- 6: no "MultiSegment corner lies below 0"
   pub corners : (k : ℕ) → k < ts .edges .count → CornersAbove (edgeAt image (ts .edges) k) (edgePoints image ts k)
   -- 7: no "element names one already listed"

@@ -12,6 +12,7 @@ use Rattle.header.specs.Header.{headerJudged}
 use Rattle.fields.specs.Tables.{recordsJudged}
 use Rattle.elements.specs.Elements.{twiceJudged, orderJudged}
 use Rattle.things.specs.Things.{rangesOf, runCount}
+use Rattle.controls.specs.Controls.{controlsJudged}
 use Rattle.corners.specs.Corners.{cornersJudged}
 use Rattle.listing.specs.Listing.{listedJudged}
 use Rattle.refusals.specs.declared.Answer.{Answer}
@@ -33,6 +34,9 @@ badField = 4
 
 abbrev pub badRange : ℕ
 badRange = 5
+
+abbrev pub controlCharacter : ℕ
+controlCharacter = 13
 
 abbrev pub cornerBelowZero : ℕ
 cornerBelowZero = 6
@@ -71,6 +75,7 @@ unfoldable pub contentRules : List ℕ → Tables → List Rule
 contentRules image ts =
     rule badField (recordsJudged image ts)
     ∷ rule badRange (rangesJudged image ts)
+    ∷ rule controlCharacter (controlsJudged image (ts .glyphs))
     ∷ rule cornerBelowZero (cornersJudged image ts)
     ∷ []
 

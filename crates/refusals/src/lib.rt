@@ -1,4 +1,4 @@
-// The check: codes 1 to 10 of document 01's "Refusals in order", with place and run count, for every slice of words.
+// The check: codes 1 to 10 of document 01's "Refusals in order" and code 13, which stands between 5 and 6, with place and run count, for every slice of words.
 ghost use mathlib.Core.Path.{_≡_};
 ghost use Rattle.ground.specs.Judged.{firstBad};
 ghost use Rattle.layout.specs.Inside.{AllInside};
@@ -29,6 +29,9 @@ pub const BAD_FIELD: u32 = 4;
 
 // "a width range has first > last, first not above the last before it, or holds 0020, 0022, 005B or 005D"
 pub const BAD_RANGE: u32 = 5;
+
+// "Values 0000 to 001F and 007F to 009F are no longer glyphs", between 5 and 6
+pub const CONTROL_CHARACTER: u32 = 13;
 
 // "a MultiSegment corner lies below 0"
 pub const CORNER_BELOW_ZERO: u32 = 6;
@@ -90,7 +93,7 @@ fn bad_range(image: &[u32], ts: Tables) -> Found
     Found::At(layout::record_at(ts.ranges, k))
 }
 
-// Codes 4 to 6.
+// Codes 4, 5, 13 and 6.
 fn check_content(image: &[u32], ts: Tables) -> Verdict
     requires { ⌜ (ts ≡ tablesOf (now image)) × AllSmall ts × AllInside (now image) ts ⌝ }
     ensures { λ r. ⌜ r ≡ firstBroken (contentRules (now (image .entry)) ts) ⌝ }
@@ -109,6 +112,13 @@ fn check_content(image: &[u32], ts: Tables) -> Verdict
             place: place,
         };
     }
+    let control = controls::first_control(image, ts.glyphs);
+    if let Found::At(place) = control {
+        return Verdict::Refused {
+            code: CONTROL_CHARACTER,
+            place: place,
+        };
+    }
     let corner = corners::bad_corner(image, ts);
     if let Found::At(place) = corner {
         return Verdict::Refused {
@@ -119,7 +129,7 @@ fn check_content(image: &[u32], ts: Tables) -> Verdict
     Verdict::Passed
 }
 
-// Codes 1 to 6: what an image is made of.
+// Codes 1 to 6 and 13: what an image is made of.
 pub fn check_form(image: &[u32]) -> Verdict
     ensures { λ r. ⌜ r ≡ firstBroken (formRules (now (image .entry))) ⌝ }
 {
