@@ -5,11 +5,10 @@ use mathlib.Core.Bool.{Bool, true, false, cond, _&&_}
 use mathlib.Core.List.{List}
 use mathlib.Core.Path.{_≡_, refl, _∙_}
 use lib.Dec.{eqb, ltb}
-use lib.ListN.{length, getD, set, length-set, List·getD-eq-default}
-use lib.Seq.{set-out, getD-set-same, getD-set-other}
+use lib.ListN.{length, getD, length-set}
+use lib.Seq.{set-out}
 use borrow.Author.Tests.{le-ltb}
 use Rattle.ground.proofs.Each.{cond-holds}
-use Rattle.ground.proofs.Order.{by-order, by-three}
 use Rattle.cell.specs.declared.Arms.{Arms}
 use Rattle.cell.specs.declared.MarkerKind.{MarkerKind}
 use Rattle.cell.specs.declared.Dir.{Dir}
@@ -22,6 +21,7 @@ use Rattle.canvas.specs.Row.{put, strokeRow, markerRow, letterRow, wideR
 use Rattle.canvas.specs.Cells.{AllPacked}
 use Rattle.canvas.specs.ProofTable.{ProofTableRow}
 use Rattle.canvas.proofs.Laws.{past-end, last-column, no-continuation-here}
+use Rattle.canvas.proofs.Kept.{KeptByInk, KeptByCell, CodePoint, put-keeps, cells-kept}
 
 -- The length.
 
@@ -136,37 +136,20 @@ text-off row ranges x ch h =
 
 -- Every cell that is written is a packing.
 
-set-packed : (x new : ℕ) (row : List ℕ) → AllPacked row → Packed new → AllPacked (set row x new)
-set-packed x new row all p k h =
-    let inside : k < length row = rw length-set at h in
-    by-three k x
-    (λ less. rw (getD-set-other row x k new 0 (λ e. omega arith)) (all k inside))
-    (λ more. rw (getD-set-other row x k new 0 (λ e. omega arith)) (all k inside))
-    (λ e. rw (← e, getD-set-same row k new 0 inside) p)
+packing-kept : KeptByCell CodePoint Packed
+unfolding pack paintedText
+packing-kept = record {
+  empty = empty-packed;
+  continuation = continuation-packed;
+  blank = omega arith;
+  strokes = stroke-packed;
+  markers = marker-packed;
+  glyphs = λ ch valid. text-packed ch 0 valid;
+}
 
--- a column past the end reads as empty, which is a packing too
-at-packed : (x : ℕ) (row : List ℕ) → AllPacked row → Packed (getD row x 0)
-at-packed x row all =
-    by-order x (length row) (all x) (λ h. rw (List·getD-eq-default row 0 h) empty-packed)
-
-space-packed : Packed (pack (Text space))
-unfolding paintedText
-space-packed = text-packed space 0 (omega arith)
-
-empty-keeps : (row ranges : List ℕ) (x : ℕ) → AllPacked row → AllPacked (emptyContinuation row ranges x)
-unfolding emptyContinuation pack
-empty-keeps row ranges x all =
-    cond-holds AllPacked (isWideLead (getD row x 0) ranges && isContinuation (getD row (x + 1) 0))
-    (set-packed (x + 1) _ row all empty-packed)
-    all
-
-blank-keeps : (row ranges : List ℕ) (x : ℕ) → AllPacked row → AllPacked (blankLead row ranges x)
-unfolding blankLead
-blank-keeps row ranges x all =
-    cond-holds AllPacked
-    (isContinuation (getD row x 0) && (ltb 0 x && isWideLead (getD row (x - 1) 0) ranges))
-    (set-packed (x - 1) _ row all space-packed)
-    all
+-- Ink leaves a row of packings, where the glyphs are Unicode's code points.
+pub packings-kept : (ranges : List ℕ) → KeptByInk ranges CodePoint AllPacked
+packings-kept ranges = cells-kept packing-kept ranges
 
 -- A packing put into a row of packings leaves a row of packings.
 pub put-packed :
@@ -174,49 +157,21 @@ pub put-packed :
     AllPacked row →
     Packed new →
     AllPacked (put row ranges x new)
-unfolding put
-put-packed row ranges x new all p =
-    cond-holds AllPacked (eqb (getD row x 0) new)
-    all
-    (let emptied = emptyContinuation row ranges x in
-    set-packed x new (blankLead emptied ranges x) (blank-keeps emptied ranges x (empty-keeps row ranges x all)) p)
+put-packed row ranges x new all p = put-keeps packing-kept row ranges x new all p
 
 -- A stroke on a row of packings leaves a row of packings.
 pub stroke-packed-row :
     (row ranges : List ℕ) (x : ℕ) (arms : Arms) →
     AllPacked row →
     AllPacked (strokeRow row ranges x arms)
-unfolding strokeRow
-stroke-packed-row row ranges x arms all =
-    put-packed row ranges x _ all (stroke-packed arms _ (at-packed x row all))
+stroke-packed-row row ranges x arms all = packings-kept ranges .strokes row x arms all
 
 -- So does a marker.
 pub marker-packed-row :
     (row ranges : List ℕ) (x : ℕ) (kind : MarkerKind) (dir : Dir) (dashed : Bool) →
     AllPacked row →
     AllPacked (markerRow row ranges x kind dir dashed)
-unfolding markerRow
-marker-packed-row row ranges x kind dir dashed all =
-    put-packed row ranges x _ all (marker-packed kind dir dashed _ (at-packed x row all))
-
-letter-packed-row :
-    (row ranges : List ℕ) (x ch : ℕ) →
-    ch ≤ 0x10FFFF →
-    AllPacked row →
-    AllPacked (letterRow row ranges x ch)
-unfolding letterRow
-letter-packed-row row ranges x ch valid all = put-packed row ranges x _ all (text-packed ch _ valid)
-
-wide-packed-row :
-    (row ranges : List ℕ) (x ch : ℕ) →
-    ch ≤ 0x10FFFF →
-    AllPacked row →
-    AllPacked (wideRow row ranges x ch)
-unfolding wideRow pack
-wide-packed-row row ranges x ch valid all =
-    cond-holds AllPacked (ltb (x + 1) (length row))
-    (put-packed (letterRow row ranges x ch) ranges (x + 1) _ (letter-packed-row row ranges x ch valid all) continuation-packed)
-    (letter-packed-row row ranges x space (omega arith) all)
+marker-packed-row row ranges x kind dir dashed all = packings-kept ranges .markers row x kind dir dashed all
 
 -- So does a glyph of a Unicode code point.
 pub text-packed-row :
@@ -224,11 +179,7 @@ pub text-packed-row :
     ch ≤ 0x10FFFF →
     AllPacked row →
     AllPacked (textRow row ranges x ch)
-unfolding textRow
-text-packed-row row ranges x ch valid all =
-    cond-holds AllPacked (eqb (widthOf ranges ch) 0)
-    all
-    (cond-holds AllPacked (eqb (widthOf ranges ch) 2) (wide-packed-row row ranges x ch valid all) (letter-packed-row row ranges x ch valid all))
+text-packed-row row ranges x ch valid all = packings-kept ranges .glyphs row x ch valid all
 
 -- The cases P5 and P6 of the proof table hold.
 pub proof-table-row : ProofTableRow
