@@ -3,10 +3,12 @@ use Prim.Native.Nat.{ℕ, _≤_, _<_}
 use native.Mathlib.Omega.{arith}
 use mathlib.Core.Bool.{Bool, true, false}
 use mathlib.Core.Path.{_≡_, refl}
+use Rattle.ground.proofs.Each.{cond-holds}
 use Rattle.cell.specs.declared.Parts.{Parts}
 use Rattle.cell.specs.declared.Parts.the-variants.{Empty, Text, Continuation, Stroke, Marker}
 use Rattle.cell.specs.declared.Arms.{Arms}
 use Rattle.cell.specs.declared.MarkerKind.{MarkerKind}
+use Rattle.cell.specs.declared.MarkerKind.the-variants.{Arrow, SelfLoop, Dummy}
 use Rattle.cell.specs.declared.Dir.{Dir}
 use Rattle.cell.specs.OneCell.{packArms, packMarker, pack, readArms, readText, readMarker, read, Valid, Packed}
 use Rattle.cell.specs.OneCell.{heavierArms, hasDouble, doubleOnMarker, stroked, marked, paintedStroke, paintedMarker, paintedText}
@@ -76,6 +78,47 @@ marker-packed kind dir dashed w h = record {
 pub text-packed : (ch w : ℕ) → ch ≤ 0x10FFFF → Packed (paintedText w ch)
 unfolding paintedText Valid
 text-packed ch w h = record { parts = Text ch; valid = h; packing = refl }
+
+-- Read back, a stroke and a marker are what the rules make of the parts that stood there.
+
+pub read-stroked : (new : Arms) (w : ℕ) → Packed w → read (paintedStroke w new) ≡ stroked (read w) new
+unfolding paintedStroke
+read-stroked new w h = read-pack (stroked (read w) new) (stroke-valid new (read w) (read-valid w h))
+
+pub read-marked :
+    (kind : MarkerKind) (dir : Dir) (dashed : Bool) (w : ℕ) →
+    Packed w →
+    read (paintedMarker w kind dir dashed) ≡ marked (read w) kind dir dashed
+unfolding paintedMarker
+read-marked kind dir dashed w h = read-pack (marked (read w) kind dir dashed) (marker-valid kind dir dashed (read w) (read-valid w h))
+
+-- Neither writes a character: one that stands there stood there before.
+
+never-text : {P : Type 0} (arms : Arms) (ch : ℕ) → Stroke arms ≡ Text ch → P
+never-text arms ch e = let z : _≡_ {A = ℕ} 0 1 = cc in absurd (omega arith)
+
+double-text : {P : Type 0} (new : Arms) (kind : MarkerKind) (dir : Dir) (ch : ℕ) → doubleOnMarker new kind dir ≡ Text ch → P
+unfolding doubleOnMarker
+double-text new Arrow dir ch e = never-text _ ch e
+double-text new SelfLoop dir ch e = never-text _ ch e
+double-text new Dummy dir ch e = never-text _ ch e
+
+pub stroke-text : (p : Parts) (new : Arms) (ch : ℕ) → stroked p new ≡ Text ch → p ≡ Text ch
+unfolding stroked
+stroke-text Empty new ch e = never-text _ ch e
+stroke-text (Text old) new ch e = cond-holds (λ (q : Parts). q ≡ Text ch → Text old ≡ Text ch) (hasDouble new) (never-text _ ch) (λ f. f) e
+stroke-text Continuation new ch e = cond-holds (λ (q : Parts). q ≡ Text ch → Continuation ≡ Text ch) (hasDouble new) (never-text _ ch) (λ f. f) e
+stroke-text (Stroke old) new ch e = never-text _ ch e
+stroke-text (Marker kind dir dashed) new ch e =
+    cond-holds (λ (q : Parts). q ≡ Text ch → Marker kind dir dashed ≡ Text ch) (hasDouble new) (double-text new kind dir ch) (λ f. f) e
+
+pub marker-text : (p : Parts) (kind : MarkerKind) (dir : Dir) (dashed : Bool) (ch : ℕ) → marked p kind dir dashed ≡ Text ch → p ≡ Text ch
+unfolding marked
+marker-text Empty kind dir dashed ch e = let z : _≡_ {A = ℕ} 0 1 = cc in absurd (omega arith)
+marker-text (Text old) kind dir dashed ch e = e
+marker-text Continuation kind dir dashed ch e = e
+marker-text (Stroke arms) kind dir dashed ch e = let z : _≡_ {A = ℕ} 0 1 = cc in absurd (omega arith)
+marker-text (Marker k d x) kind dir dashed ch e = let z : _≡_ {A = ℕ} 0 1 = cc in absurd (omega arith)
 
 -- The cases P1 to P4 of the proof table hold.
 pub proof-table-cell : ProofTableCell
