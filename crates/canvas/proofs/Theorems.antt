@@ -1,7 +1,7 @@
 -- What holds of ink in a row: it keeps the row's length, vanishes off the row, and leaves packings.
 use native.Mathlib.Omega.{arith}
-use Prim.Native.Nat.{ℕ, _+_, _-_, _≤_, _<_}
-use mathlib.Core.Bool.{Bool, true, false, cond, _&&_}
+use Prim.Native.Nat.{ℕ, _+_, _-_, _≤_}
+use mathlib.Core.Bool.{Bool, _&&_}
 use mathlib.Core.List.{List}
 use mathlib.Core.Path.{_≡_, refl, _∙_}
 use lib.Dec.{eqb, ltb}
@@ -12,7 +12,7 @@ use Rattle.ground.proofs.Each.{cond-holds}
 use Rattle.cell.specs.declared.Arms.{Arms}
 use Rattle.cell.specs.declared.MarkerKind.{MarkerKind}
 use Rattle.cell.specs.declared.Dir.{Dir}
-use Rattle.cell.specs.declared.Parts.the-variants.{Text, Continuation}
+use Rattle.cell.specs.declared.Parts.the-variants.{Continuation}
 use Rattle.cell.specs.OneCell.{pack, readText, read, Packed, paintedText}
 use Rattle.cell.proofs.Theorems.{empty-packed, continuation-packed, stroke-packed, marker-packed, text-packed}
 use Rattle.glyph.specs.Width.{bisect, widthOf}

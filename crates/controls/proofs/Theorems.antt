@@ -1,10 +1,10 @@
 -- Code 13 finds nothing exactly where no glyph is a control character.
 use native.Mathlib.Omega.{arith}
-use Prim.Native.Nat.{ℕ, _≤_, _<_}
-use mathlib.Core.Bool.{Bool, true, false, not, _&&_, _||_, or-true}
+use Prim.Native.Nat.{ℕ}
+use mathlib.Core.Bool.{true, _&&_, or-true}
 use mathlib.Core.List.{List}
 use mathlib.Core.Logic.{_↔_, _⊎_, inl, inr, ⊎-elim}
-use mathlib.Core.Path.{_≡_, refl}
+use mathlib.Core.Path.{_≡_}
 use lib.Dec.{leb}
 use borrow.Author.Tests.{le-leb, leb-true, not-true}
 use Rattle.ground.specs.declared.Found.the-variants as found
