@@ -1,4 +1,4 @@
--- Each cell of a picture is the packing of valid parts, where the image's glyphs are Unicode's.
+-- What all ink keeps, where the glyphs have a property, each row of a picture has: so each cell is the packing of valid parts, where they are Unicode's.
 use native.Mathlib.Omega.{arith}
 use Prim.Native.Nat.{ℕ, zero, suc, _+_, _*_, _≤_, _<_}
 use mathlib.Core.Bool.{Bool, true, false, cond, _&&_}
@@ -15,12 +15,14 @@ use Rattle.cell.specs.declared.Arms.{Arms}
 use Rattle.cell.specs.declared.Weight.{Weight}
 use Rattle.cell.specs.declared.MarkerKind.{MarkerKind}
 use Rattle.cell.specs.declared.Dir.{Dir}
-use Rattle.cell.specs.OneCell.{horizontal, vertical}
+use Rattle.cell.specs.OneCell.{horizontal, vertical, Packed}
 use Rattle.cell.proofs.Theorems.{empty-packed}
 use Rattle.glyph.specs.Width.{widthOf}
+use Rattle.glyph.specs.Ranges.{Fixed, space, quote, opening, closing}
 use Rattle.glyph.specs.Fitting.{fitCount, fitPrefix}
 use Rattle.canvas.specs.Cells.{AllPacked}
-use Rattle.canvas.proofs.Theorems.{stroke-packed-row, marker-packed-row, text-packed-row}
+use Rattle.canvas.proofs.Kept.{CodePoint, AllCells, KeptByInk}
+use Rattle.canvas.proofs.Theorems.{packings-kept}
 use Rattle.layout.specs.declared.Tables.{Tables}
 use Rattle.layout.specs.Layout.{maxScalar, firstSurrogate, lastSurrogate, glyphSize, glyphValue}
 use Rattle.layout.specs.Tables.{word, tableEnd, recordAt, field, tablesOf}
@@ -57,7 +59,7 @@ use Rattle.runs.specs.Runs.{flushRow}
 use Rattle.picture.specs.Writes.{borderWrites, edgeWrites, edgeLabelGlyphs, writesOfLabel, placedLabelWrites, nodeWrites, subgraphLabelWrites}
 use Rattle.picture.specs.Writes.{borders, edges, placedLabels, nodes, subgraphLabels}
 use Rattle.picture.specs.Picture.{width, rowPainted}
-use Rattle.runs.proofs.Theorems.{flush-packed}
+use Rattle.runs.proofs.Theorems.{flush-keeps}
 
 -- all of a list
 data AllOf {A : Type 0} (P : A → Type 0) : List A → Type 0 where
@@ -92,141 +94,6 @@ module _ {A : Type 0} {P : A → Type 0} where
   all-getD d [] h = none
   all-getD d (a ∷ l) h = more (h 0 (omega arith)) (all-getD d l (λ i p. h (suc i) (omega arith)))
 
--- Ink whose glyphs are code points.
-
-abbrev CodePoint : ℕ → Type 0
-CodePoint ch = ch ≤ maxScalar
-
-data GoodInk : Ink → Type 0 where
-  a-stroke : {arms : Arms} → GoodInk (stroke arms)
-  a-marker : {kind : MarkerKind} {dir : Dir} {dashed : Bool} → GoodInk (marker kind dir dashed)
-  a-glyph : {ch : ℕ} → CodePoint ch → GoodInk (glyph ch)
-
-data GoodSpot : Spot → Type 0 where
-  spot : {s : Spot} → GoodInk (s .ink) → GoodSpot s
-
-abbrev GoodWrite : Write → Type 0
-GoodWrite w = GoodSpot (w .spot)
-
-tinted-good : (t : Tint) {spots : List Spot} → AllOf GoodSpot spots → AllOf GoodWrite (tinted t spots)
-tinted-good t none = none
-tinted-good t (more a p) = more a (tinted-good t p)
-
--- What things make.
-
-corners-good : (w : Weight) (left right top bottom : ℕ) → AllOf GoodSpot (corners w left right top bottom)
-corners-good w left right top bottom = more (spot a-stroke) (more (spot a-stroke) (more (spot a-stroke) (more (spot a-stroke) none)))
-
-across-good : (w : Weight) (left right y : ℕ) → AllOf GoodSpot (across w left right y)
-across-good w left right y = all-map (λ x. at x y (stroke (horizontal w))) (between left right) (λ x. spot a-stroke)
-
-down-good : (w : Weight) (x top bottom : ℕ) → AllOf GoodSpot (down w x top bottom)
-down-good w x top bottom = all-map (λ y. at x y (stroke (vertical w))) (between top bottom) (λ y. spot a-stroke)
-
-box-good : (w : Weight) (left right top bottom : ℕ) → AllOf GoodSpot (boxOf w left right top bottom)
-unfolding boxOf
-box-good w left right top bottom =
-    all-append
-    (all-append
-    (all-append (all-append (corners-good w left right top bottom) (across-good w left right top)) (across-good w left right bottom))
-    (down-good w left top bottom))
-    (down-good w right top bottom)
-
-text-good : (ranges : List ℕ) (x y : ℕ) {glyphs : List ℕ} → AllOf CodePoint glyphs → AllOf GoodSpot (text ranges x y glyphs)
-unfolding text
-text-good ranges x y none = none
-text-good ranges x y (more a p) = more (spot (a-glyph a)) (text-good ranges _ y p)
-
-until-good : (ranges : List ℕ) (close x y : ℕ) {glyphs : List ℕ} → AllOf CodePoint glyphs → AllOf GoodSpot (textUntil ranges close x y glyphs)
-unfolding textUntil
-until-good ranges close x y none = none
-until-good ranges close x y (more {a = ch} a p) =
-    all-when (leb (x + widthOf ranges ch) close) (λ e. more (spot (a-glyph a)) (until-good ranges close _ y p))
-
-fitting-good : (ranges : List ℕ) (columns : ℕ) {glyphs : List ℕ} → AllOf CodePoint glyphs → AllOf CodePoint (fitPrefix glyphs ranges columns)
-unfolding fitPrefix
-fitting-good ranges columns {glyphs} p = all-take (fitCount glyphs ranges columns) p
-
-border-good : (s : Subgraph) → AllOf GoodSpot (borderSpots s)
-unfolding borderSpots
-border-good s = all-when (hasBorder s) (λ e. box-good _ _ _ _ _)
-
-subgraph-label-good : (ranges : List ℕ) (s : Subgraph) {glyphs : List ℕ} → AllOf CodePoint glyphs → AllOf GoodSpot (subgraphLabelSpots ranges s glyphs)
-unfolding subgraphLabelSpots
-subgraph-label-good ranges s {glyphs} p = all-when (hasLabel s glyphs) (λ e. text-good ranges _ _ (fitting-good ranges _ p))
-
-arrow-good : (dashed : Bool) (h : Head) (n : ℕ) {other : Ink} → GoodInk other → GoodInk (arrowOr dashed h n other)
-arrow-good dashed head.None n p = p
-arrow-good dashed (head.At place dir) n p = cond-holds GoodInk (eqb place n) a-marker p
-
-line-good : (dashed : Bool) (l : Line) (arms : Arms) (n : ℕ) → GoodInk (lineInk dashed l arms n)
-line-good dashed l arms n = arrow-good dashed (l .winner) n (arrow-good dashed (l .other) n a-stroke)
-
-piece-good : (e : Edge) (p : Piece) → AllOf GoodSpot (pieceSpots e p)
-unfolding pieceSpots
-piece-good e Nothing = none
-piece-good e (Vertical l) = all-map _ (between (l .from) (l .to)) (λ y. spot (line-good (e .reversed) l _ y))
-piece-good e (Horizontal l) = all-map _ (between (l .from) (l .to)) (λ x. spot (line-good (e .reversed) l _ x))
-piece-good e (Run row first last) = none
-piece-good e (Stroke x y arms) = more (spot a-stroke) none
-piece-good e (Mark x y dir) = more (spot a-marker) none
-
-edge-good : (e : Edge) (points : List ℕ) → AllOf GoodSpot (edgeSpots e points)
-unfolding edgeSpots
-edge-good e points = all-each (pieces e points) (pieceSpots e) (piece-good e)
-
-loop-good : (l : SelfLoop) → AllOf GoodSpot (loopSpots l)
-loop-good loop.None = none
-loop-good (loop.At x y) = more (spot a-marker) none
-
-simple-good : (ranges : List ℕ) (n : Node) {glyphs : List ℕ} → AllOf CodePoint glyphs → AllOf GoodSpot (simpleSpots ranges n glyphs)
-simple-good ranges n p =
-    more (spot (a-glyph {ch = 0x5B} (omega arith)))
-    (all-append (until-good ranges _ _ _ p) (all-when (leb 2 (n .width)) (λ e. more (spot (a-glyph {ch = 0x5D} (omega arith))) none)))
-
-look-good : (ranges : List ℕ) (n : Node) {glyphs : List ℕ} (l : Look) → AllOf CodePoint glyphs → AllOf GoodSpot (lookSpots ranges n glyphs l)
-unfolding lookSpots
-look-good ranges n Hidden p = none
-look-good ranges n Dummy p = more (spot a-marker) none
-look-good ranges n Box p =
-    all-append (all-append (box-good _ _ _ _ _) (text-good ranges _ _ (fitting-good ranges _ p))) (loop-good (n .«self_loop»))
-look-good ranges n Simple p = all-append (simple-good ranges n p) (loop-good (n .«self_loop»))
-look-good ranges n Blank p = loop-good (n .«self_loop»)
-
-placed-good :
-    (policy : LabelPolicy) (ranges : List ℕ) (p : PlacedLabel) (l : EdgeLabel) {glyphs : List ℕ} → AllOf CodePoint glyphs →
-    AllOf GoodSpot (placedLabelSpots policy ranges p l glyphs)
-unfolding placedLabelSpots
-placed-good policy ranges p label.None h = none
-placed-good policy ranges p (label.Present span) h =
-    all-when (paintsUnder policy p)
-    (λ e. text-good ranges _ _ (more (omega arith) (all-append h (more (omega arith) none))))
-
--- Good ink leaves packings.
-
-ink-packed : (ranges : List ℕ) (x : ℕ) {i : Ink} (row : List ℕ) → GoodInk i → AllPacked row → AllPacked (inkOn ranges x i row)
-unfolding inkOn
-ink-packed ranges x row a-stroke all = stroke-packed-row row ranges x _ all
-ink-packed ranges x row a-marker all = marker-packed-row row ranges x _ _ _ all
-ink-packed ranges x row (a-glyph h) all = text-packed-row row ranges x _ h all
-
-write-packed : (ranges : List ℕ) (w : Write) (row : List ℕ) → GoodWrite w → AllPacked row → AllPacked (inkCells ranges w row)
-unfolding inkCells
-write-packed ranges w row (spot g) all = ink-packed ranges (w .spot .x) row g all
-
-after-packed : (ranges : List ℕ) (y : ℕ) {writes : List Write} (row : List ℕ) → AllOf GoodWrite writes → AllPacked row → AllPacked (rowAfter (inkCells ranges) y writes row)
-unfolding rowAfter
-after-packed ranges y row none all = all
-after-packed ranges y row (more {a = w} g p) all =
-    after-packed ranges y _ p (cond-holds AllPacked (eqb (w .spot .y) y) (write-packed ranges w row g all) all)
-
-row-packed : (ranges : List ℕ) (y : ℕ) {writes : List Write} (row : Canvas) → AllOf GoodWrite writes → AllPacked (row .cells) → AllPacked (inkRow ranges y writes row .cells)
-unfolding inkRow
-row-packed ranges y row good all = after-packed ranges y (row .cells) good all
-
-empty-cells : (n : ℕ) → AllPacked (replicate n 0)
-empty-cells n k h = rw (getD-replicate {A = ℕ} n k 0 0 (rw (length-replicate {A = ℕ} n 0) at h)) empty-packed
-
 -- A glyph is one word.
 pub glyph-size : (image : List ℕ) → tablesOf image .glyphs .size ≡ glyphSize
 unfolding tablesOf
@@ -236,65 +103,214 @@ glyph-size image = refl
 pub code-point : (n : ℕ) → (n < firstSurrogate) ⊎ ((lastSurrogate < n) × (n ≤ maxScalar)) → CodePoint n
 code-point n s = ⊎-elim (λ low. omega arith) (λ high. high .1) s
 
--- Where all glyphs are code points, every cell is a packing.
-module _ (image : List ℕ) (ts : Tables) (one : ts .glyphs .size ≡ glyphSize)
-    (good : (k : ℕ) → k < ts .glyphs .count → CodePoint (field image (ts .glyphs) k glyphValue)) where
-  abbrev ranges : List ℕ
-  ranges = rangesOf image ts
+-- Ink whose glyphs have a property, which the characters that painting itself writes have too.
+module _ (Q : ℕ → Type 0) (fixed : (ch : ℕ) → Fixed ch → Q ch) where
+  data GoodInk : Ink → Type 0 where
+    a-stroke : {arms : Arms} → GoodInk (stroke arms)
+    a-marker : {kind : MarkerKind} {dir : Dir} {dashed : Bool} → GoodInk (marker kind dir dashed)
+    a-glyph : {ch : ℕ} → Q ch → GoodInk (glyph ch)
 
-  glyph-good : (start i : ℕ) → start + i < ts .glyphs .count → CodePoint (word image (recordAt (ts .glyphs) start + i))
-  glyph-good start i h =
-      let e : recordAt (ts .glyphs) start + i ≡ ts .glyphs .start + (start + i) * ts .glyphs .size + glyphValue
-      = rw one (omega arith) in
-      rw e (good (start + i) h)
+  data GoodSpot : Spot → Type 0 where
+    spot : {s : Spot} → GoodInk (s .ink) → GoodSpot s
 
-  glyphs-good : (span : Span) → AllOf CodePoint (labelGlyphs image ts span)
-  unfolding spanWords
-  glyphs-good span =
-      let count = span .count * ts .glyphs .size in
-      let rest = drop (recordAt (ts .glyphs) (span .start)) image in
-      all-when (spanInside (ts .glyphs) span && leb (tableEnd (ts .glyphs)) (length image))
-      (λ e.
-      let inside : span .start + span .count ≤ ts .glyphs .count = leb-true _ _ (and-left _ _ e) in
-      all-getD 0 (take count rest)
-      (λ i p.
-      let short : i < count = omega (arith, length-take count rest, p) in
-      let few : i < span .count = omega (arith, rw one at short) in
-      rw (getD-take count rest i 0 short, getD-drop (recordAt (ts .glyphs) (span .start)) image i 0) (glyph-good (span .start) i (omega arith))))
+  abbrev GoodWrite : Write → Type 0
+  GoodWrite w = GoodSpot (w .spot)
 
-  label-good : (l : EdgeLabel) → AllOf CodePoint (edgeLabelGlyphs image ts l)
-  label-good label.None = none
-  label-good (label.Present span) = glyphs-good span
+  tinted-good : (t : Tint) {spots : List Spot} → AllOf GoodSpot spots → AllOf GoodWrite (tinted t spots)
+  tinted-good t none = none
+  tinted-good t (more a p) = more a (tinted-good t p)
 
-  borders-good : AllOf GoodWrite (borders image ts)
-  unfolding borderWrites
-  borders-good = all-each (numbers 0 (ts .subgraphs .count)) _ (λ k. tinted-good _ (border-good _))
+  -- What things make.
 
-  edges-good : AllOf GoodWrite (edges image ts)
-  unfolding edgeWrites
-  edges-good = all-each (numbers 0 (ts .edges .count)) _ (λ k. tinted-good _ (edge-good _ _))
+  corners-good : (w : Weight) (left right top bottom : ℕ) → AllOf GoodSpot (corners w left right top bottom)
+  corners-good w left right top bottom = more (spot a-stroke) (more (spot a-stroke) (more (spot a-stroke) (more (spot a-stroke) none)))
 
-  of-label-good : (p : PlacedLabel) (e : Edge) → AllOf GoodWrite (writesOfLabel image ts p e)
-  of-label-good p e = tinted-good (colourTint (e .«label_colour»)) (placed-good _ ranges p (e .label) (label-good (e .label)))
+  across-good : (w : Weight) (left right y : ℕ) → AllOf GoodSpot (across w left right y)
+  across-good w left right y = all-map (λ x. at x y (stroke (horizontal w))) (between left right) (λ x. spot a-stroke)
 
-  placed-labels-good : AllOf GoodWrite (placedLabels image ts)
-  unfolding placedLabelWrites
-  placed-labels-good = all-each (numbers 0 (ts .labels .count)) (placedLabelWrites image ts) (λ k. of-label-good (placedLabelAt image (ts .labels) k) (edgeAt image (ts .edges) (placedLabelAt image (ts .labels) k .edge)))
+  down-good : (w : Weight) (x top bottom : ℕ) → AllOf GoodSpot (down w x top bottom)
+  down-good w x top bottom = all-map (λ y. at x y (stroke (vertical w))) (between top bottom) (λ y. spot a-stroke)
 
-  nodes-good : AllOf GoodWrite (nodes image ts)
-  unfolding nodeWrites
-  nodes-good = all-each (numbers 0 (ts .nodes .count)) _ (λ k. tinted-good _ (look-good ranges _ _ (glyphs-good _)))
+  box-good : (w : Weight) (left right top bottom : ℕ) → AllOf GoodSpot (boxOf w left right top bottom)
+  unfolding boxOf
+  box-good w left right top bottom =
+      all-append
+      (all-append
+      (all-append (all-append (corners-good w left right top bottom) (across-good w left right top)) (across-good w left right bottom))
+      (down-good w left top bottom))
+      (down-good w right top bottom)
 
-  subgraph-labels-good : AllOf GoodWrite (subgraphLabels image ts)
-  unfolding subgraphLabelWrites
-  subgraph-labels-good = all-each (numbers 0 (ts .subgraphs .count)) _ (λ k. tinted-good _ (subgraph-label-good ranges _ (glyphs-good _)))
+  text-good : (ranges : List ℕ) (x y : ℕ) {glyphs : List ℕ} → AllOf Q glyphs → AllOf GoodSpot (text ranges x y glyphs)
+  unfolding text
+  text-good ranges x y none = none
+  text-good ranges x y (more a p) = more (spot (a-glyph a)) (text-good ranges _ y p)
 
-  pub row-of-packings : (y : ℕ) → AllPacked (rowPainted image ts y .cells)
-  unfolding rowPainted flushRow
-  row-of-packings y =
-      row-packed ranges y _ subgraph-labels-good
-      (row-packed ranges y _ nodes-good
-      (row-packed ranges y _ placed-labels-good
-      (flush-packed ranges _ y _
-      (row-packed ranges y _ edges-good
-      (row-packed ranges y _ borders-good (empty-cells (width image)))))))
+  until-good : (ranges : List ℕ) (close x y : ℕ) {glyphs : List ℕ} → AllOf Q glyphs → AllOf GoodSpot (textUntil ranges close x y glyphs)
+  unfolding textUntil
+  until-good ranges close x y none = none
+  until-good ranges close x y (more {a = ch} a p) =
+      all-when (leb (x + widthOf ranges ch) close) (λ e. more (spot (a-glyph a)) (until-good ranges close _ y p))
+
+  fitting-good : (ranges : List ℕ) (columns : ℕ) {glyphs : List ℕ} → AllOf Q glyphs → AllOf Q (fitPrefix glyphs ranges columns)
+  unfolding fitPrefix
+  fitting-good ranges columns {glyphs} p = all-take (fitCount glyphs ranges columns) p
+
+  border-good : (s : Subgraph) → AllOf GoodSpot (borderSpots s)
+  unfolding borderSpots
+  border-good s = all-when (hasBorder s) (λ e. box-good _ _ _ _ _)
+
+  subgraph-label-good : (ranges : List ℕ) (s : Subgraph) {glyphs : List ℕ} → AllOf Q glyphs → AllOf GoodSpot (subgraphLabelSpots ranges s glyphs)
+  unfolding subgraphLabelSpots
+  subgraph-label-good ranges s {glyphs} p = all-when (hasLabel s glyphs) (λ e. text-good ranges _ _ (fitting-good ranges _ p))
+
+  arrow-good : (dashed : Bool) (h : Head) (n : ℕ) {other : Ink} → GoodInk other → GoodInk (arrowOr dashed h n other)
+  arrow-good dashed head.None n p = p
+  arrow-good dashed (head.At place dir) n p = cond-holds GoodInk (eqb place n) a-marker p
+
+  line-good : (dashed : Bool) (l : Line) (arms : Arms) (n : ℕ) → GoodInk (lineInk dashed l arms n)
+  line-good dashed l arms n = arrow-good dashed (l .winner) n (arrow-good dashed (l .other) n a-stroke)
+
+  piece-good : (e : Edge) (p : Piece) → AllOf GoodSpot (pieceSpots e p)
+  unfolding pieceSpots
+  piece-good e Nothing = none
+  piece-good e (Vertical l) = all-map _ (between (l .from) (l .to)) (λ y. spot (line-good (e .reversed) l _ y))
+  piece-good e (Horizontal l) = all-map _ (between (l .from) (l .to)) (λ x. spot (line-good (e .reversed) l _ x))
+  piece-good e (Run row first last) = none
+  piece-good e (Stroke x y arms) = more (spot a-stroke) none
+  piece-good e (Mark x y dir) = more (spot a-marker) none
+
+  edge-good : (e : Edge) (points : List ℕ) → AllOf GoodSpot (edgeSpots e points)
+  unfolding edgeSpots
+  edge-good e points = all-each (pieces e points) (pieceSpots e) (piece-good e)
+
+  loop-good : (l : SelfLoop) → AllOf GoodSpot (loopSpots l)
+  loop-good loop.None = none
+  loop-good (loop.At x y) = more (spot a-marker) none
+
+  simple-good : (ranges : List ℕ) (n : Node) {glyphs : List ℕ} → AllOf Q glyphs → AllOf GoodSpot (simpleSpots ranges n glyphs)
+  simple-good ranges n p =
+      more (spot (a-glyph (fixed 0x5B opening)))
+      (all-append (until-good ranges _ _ _ p) (all-when (leb 2 (n .width)) (λ e. more (spot (a-glyph (fixed 0x5D closing))) none)))
+
+  look-good : (ranges : List ℕ) (n : Node) {glyphs : List ℕ} (l : Look) → AllOf Q glyphs → AllOf GoodSpot (lookSpots ranges n glyphs l)
+  unfolding lookSpots
+  look-good ranges n Hidden p = none
+  look-good ranges n Dummy p = more (spot a-marker) none
+  look-good ranges n Box p =
+      all-append (all-append (box-good _ _ _ _ _) (text-good ranges _ _ (fitting-good ranges _ p))) (loop-good (n .«self_loop»))
+  look-good ranges n Simple p = all-append (simple-good ranges n p) (loop-good (n .«self_loop»))
+  look-good ranges n Blank p = loop-good (n .«self_loop»)
+
+  placed-good :
+      (policy : LabelPolicy) (ranges : List ℕ) (p : PlacedLabel) (l : EdgeLabel) {glyphs : List ℕ} → AllOf Q glyphs →
+      AllOf GoodSpot (placedLabelSpots policy ranges p l glyphs)
+  unfolding placedLabelSpots
+  placed-good policy ranges p label.None h = none
+  placed-good policy ranges p (label.Present span) h =
+      all-when (paintsUnder policy p)
+      (λ e. text-good ranges _ _ (more (fixed 0x22 quote) (all-append h (more (fixed 0x22 quote) none))))
+
+  -- Good writes keep what all ink keeps.
+  module _ {ranges : List ℕ} {P : List ℕ → Type 0} (keeps : KeptByInk ranges Q P) where
+    ink-keeps : (x : ℕ) {i : Ink} (row : List ℕ) → GoodInk i → P row → P (inkOn ranges x i row)
+    unfolding inkOn
+    ink-keeps x row a-stroke p = keeps .strokes row x _ p
+    ink-keeps x row a-marker p = keeps .markers row x _ _ _ p
+    ink-keeps x row (a-glyph h) p = keeps .glyphs row x _ h p
+
+    write-keeps : (w : Write) (row : List ℕ) → GoodWrite w → P row → P (inkCells ranges w row)
+    unfolding inkCells
+    write-keeps w row (spot g) p = ink-keeps (w .spot .x) row g p
+
+    after-keeps : (y : ℕ) {writes : List Write} (row : List ℕ) → AllOf GoodWrite writes → P row → P (rowAfter (inkCells ranges) y writes row)
+    unfolding rowAfter
+    after-keeps y row none p = p
+    after-keeps y row (more {a = w} g q) p =
+        after-keeps y _ q (cond-holds P (eqb (w .spot .y) y) (write-keeps w row g p) p)
+
+    row-keeps : (y : ℕ) {writes : List Write} (row : Canvas) → AllOf GoodWrite writes → P (row .cells) → P (inkRow ranges y writes row .cells)
+    unfolding inkRow
+    row-keeps y row good p = after-keeps y (row .cells) good p
+
+  -- Of an image whose glyphs have the property.
+  module _ (image : List ℕ) (ts : Tables) (one : ts .glyphs .size ≡ glyphSize)
+      (good : (k : ℕ) → k < ts .glyphs .count → Q (field image (ts .glyphs) k glyphValue)) where
+    abbrev ranges : List ℕ
+    ranges = rangesOf image ts
+
+    glyph-good : (start i : ℕ) → start + i < ts .glyphs .count → Q (word image (recordAt (ts .glyphs) start + i))
+    glyph-good start i h =
+        let e : recordAt (ts .glyphs) start + i ≡ ts .glyphs .start + (start + i) * ts .glyphs .size + glyphValue
+        = rw one (omega arith) in
+        rw e (good (start + i) h)
+
+    glyphs-good : (span : Span) → AllOf Q (labelGlyphs image ts span)
+    unfolding spanWords
+    glyphs-good span =
+        let count = span .count * ts .glyphs .size in
+        let rest = drop (recordAt (ts .glyphs) (span .start)) image in
+        all-when (spanInside (ts .glyphs) span && leb (tableEnd (ts .glyphs)) (length image))
+        (λ e.
+        let inside : span .start + span .count ≤ ts .glyphs .count = leb-true _ _ (and-left _ _ e) in
+        all-getD 0 (take count rest)
+        (λ i p.
+        let short : i < count = omega (arith, length-take count rest, p) in
+        let few : i < span .count = omega (arith, rw one at short) in
+        rw (getD-take count rest i 0 short, getD-drop (recordAt (ts .glyphs) (span .start)) image i 0) (glyph-good (span .start) i (omega arith))))
+
+    label-good : (l : EdgeLabel) → AllOf Q (edgeLabelGlyphs image ts l)
+    label-good label.None = none
+    label-good (label.Present span) = glyphs-good span
+
+    borders-good : AllOf GoodWrite (borders image ts)
+    unfolding borderWrites
+    borders-good = all-each (numbers 0 (ts .subgraphs .count)) _ (λ k. tinted-good _ (border-good _))
+
+    edges-good : AllOf GoodWrite (edges image ts)
+    unfolding edgeWrites
+    edges-good = all-each (numbers 0 (ts .edges .count)) _ (λ k. tinted-good _ (edge-good _ _))
+
+    of-label-good : (p : PlacedLabel) (e : Edge) → AllOf GoodWrite (writesOfLabel image ts p e)
+    of-label-good p e = tinted-good (colourTint (e .«label_colour»)) (placed-good _ ranges p (e .label) (label-good (e .label)))
+
+    placed-labels-good : AllOf GoodWrite (placedLabels image ts)
+    unfolding placedLabelWrites
+    placed-labels-good = all-each (numbers 0 (ts .labels .count)) (placedLabelWrites image ts) (λ k. of-label-good (placedLabelAt image (ts .labels) k) (edgeAt image (ts .edges) (placedLabelAt image (ts .labels) k .edge)))
+
+    nodes-good : AllOf GoodWrite (nodes image ts)
+    unfolding nodeWrites
+    nodes-good = all-each (numbers 0 (ts .nodes .count)) _ (λ k. tinted-good _ (look-good ranges _ _ (glyphs-good _)))
+
+    subgraph-labels-good : AllOf GoodWrite (subgraphLabels image ts)
+    unfolding subgraphLabelWrites
+    subgraph-labels-good = all-each (numbers 0 (ts .subgraphs .count)) _ (λ k. tinted-good _ (subgraph-label-good ranges _ (glyphs-good _)))
+
+    -- What all ink keeps, and an empty row has, a row of the picture has.
+    pub row-has : (P : List ℕ → Type 0) → KeptByInk ranges Q P → P (replicate (width image) 0) → (y : ℕ) → P (rowPainted image ts y .cells)
+    unfolding rowPainted flushRow
+    row-has P keeps empty y =
+        row-keeps keeps y _ subgraph-labels-good
+        (row-keeps keeps y _ nodes-good
+        (row-keeps keeps y _ placed-labels-good
+        (flush-keeps ranges P (keeps .strokes) _ y _
+        (row-keeps keeps y _ edges-good
+        (row-keeps keeps y _ borders-good empty)))))
+
+-- a property that the empty cell has, every cell of an empty row has
+pub empty-row : (C : ℕ → Type 0) → C 0 → (n : ℕ) → AllCells C (replicate n 0)
+empty-row C e n k h = rw (getD-replicate {A = ℕ} n k 0 0 (rw (length-replicate {A = ℕ} n 0) at h)) e
+
+pub fixed-code-point : (ch : ℕ) → Fixed ch → CodePoint ch
+fixed-code-point ch space = omega arith
+fixed-code-point ch quote = omega arith
+fixed-code-point ch opening = omega arith
+fixed-code-point ch closing = omega arith
+
+-- So every cell is a packing, where the glyphs are code points.
+pub row-of-packings :
+    (image : List ℕ) (ts : Tables) → ts .glyphs .size ≡ glyphSize →
+    ((k : ℕ) → k < ts .glyphs .count → CodePoint (field image (ts .glyphs) k glyphValue)) →
+    (y : ℕ) → AllPacked (rowPainted image ts y .cells)
+row-of-packings image ts one good y =
+    row-has CodePoint fixed-code-point image ts one good AllPacked
+    (packings-kept (rangesOf image ts)) (empty-row Packed empty-packed (width image)) y

@@ -6,5 +6,6 @@ pub mod Laws
 pub mod Bands
 pub mod Answers
 pub mod Cells
+pub mod Characters
 pub mod ListFree
 pub mod Theorems

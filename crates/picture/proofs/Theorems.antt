@@ -3,15 +3,18 @@ use Prim.Native.Nat.{ℕ, _+_, _≤_}
 use mathlib.Core.List.{List, []}
 use mathlib.Core.Path.{_≡_, refl, sym, _∙_}
 use lib.ListN.{length, length-replicate}
+use Rattle.cell.specs.declared.Parts.the-variants.{Text}
 use Rattle.layout.specs.Tables.{tablesOf}
 use Rattle.canvas.specs.Cells.{AllPacked}
 use Rattle.rows.specs.declared.Window.{Window}
 use Rattle.things.specs.Things.{sheetOf}
 use Rattle.window.specs.Writes.{canvas}
+use Rattle.controls.specs.Controls.{Control}
 use Rattle.refusals.specs.declared.Verdict.the-variants.{Passed, Refused}
 use Rattle.refusals.specs.Rules.{checked}
 use Rattle.refusals.proofs.Theorems.{accepted-iff}
 use Rattle.picture.specs.Picture.{width, height, pictureRow, pictureCells, pictureColours}
+use Rattle.picture.specs.Characters.{partsAt, Character}
 use Rattle.picture.specs.Sheet.{windowPainted, emptyWindow}
 use Rattle.picture.specs.Painted.{room, scratchRoom, plainJudged, colouredJudged, plainVerdict, colouredVerdict, Painted, painted, PaintedColoured, paintedColoured}
 use Rattle.picture.specs.ProofTable.{ProofTable, ExampleA}
@@ -19,6 +22,7 @@ use Rattle.picture.proofs.Statements.{IsRows, plainWindow, rowsOf, band
 use Rattle.picture.proofs.Table.{table, example}
 use Rattle.picture.proofs.Laws.{window-rows, plain-rows, cells-length, colours-length}
 use Rattle.picture.proofs.Cells.{glyph-size, code-point, row-of-packings}
+use Rattle.picture.proofs.Characters.{row-characters, printable}
 use Rattle.picture.proofs.ListFree.{one-picture}
 use Rattle.picture.proofs.Bands.{cells-bands, colours-bands}
 use Rattle.picture.proofs.Answers.{kept-on-refusal, holds-needed, same-needed, as-checked, plain-room, coloured-room, cells-of-whole, colours-of-whole}
@@ -38,6 +42,19 @@ pub every-cell : (image : List ℕ) → checked image .code ≡ 0 → (y : ℕ) 
 every-cell image accepted y =
     let keeps = accepted-iff image .0 accepted in
     row-of-packings image (tablesOf image) (glyph-size image) (λ k h. code-point _ (keeps .tables .fields .glyphs k h .value)) y
+
+-- Every character of an accepted image's picture is a glyph of the image, or one of the four that painting itself writes.
+pub picture-characters :
+    (image : List ℕ) → checked image .code ≡ 0 → (y x ch : ℕ) →
+    partsAt (pictureRow image y .cells) x ≡ Text ch → Character image ch
+picture-characters image accepted y x ch e = row-characters image (accepted-iff image .0 accepted) y x ch e
+
+-- So no cell of it holds a control character.
+pub no-control :
+    (image : List ℕ) → checked image .code ≡ 0 → (y x ch : ℕ) →
+    partsAt (pictureRow image y .cells) x ≡ Text ch → Control ch → ⊥
+no-control image accepted y x ch e =
+    printable image (accepted-iff image .0 accepted) ch (picture-characters image accepted y x ch e)
 
 -- A window that is painted at once is its rows of the picture side by side, cells and colours.
 pub window-is-rows :
