@@ -32,7 +32,7 @@ use Rattle.picture.specs.Painted.{room, scratchRoom}
 use Rattle.stage.specs.Staged.{Staged}
 use Rattle.compose.specs.Painting.{FewRuns, LentPlanes, LentBand}
 
--- the rules 1 to 6 have passed
+-- the rules of the form have passed
 form-passed : (image : List ℕ) → Keeps image → firstBroken (formRules image) ≡ Passed
 unfolding rules
 form-passed image keeps =

@@ -29,7 +29,7 @@ fn outcome_of(verdict: Verdict) -> Outcome
     }
 }
 
-// Codes 1 to 10.
+// The codes of the check.
 fn image_verdict(image: &[u32]) -> Verdict
     ensures { λ r. ⌜ r ≡ firstBroken (rules (now (image .entry))) ⌝ }
 {
@@ -43,7 +43,7 @@ fn image_verdict(image: &[u32]) -> Verdict
     Verdict::Passed
 }
 
-// Codes 1 to 12, of a plain band.
+// The codes of the check, then 11 and 12 of a plain band.
 fn plain_verdict(
     image: &[u32],
     first: usize,
@@ -80,7 +80,7 @@ pub fn paint(
     outcome_of(verdict)
 }
 
-// Codes 1 to 12, of a coloured band.
+// The codes of the check, then 11 and 12 of a coloured band.
 fn coloured_verdict(
     image: &[u32],
     first: usize,
