@@ -294,8 +294,8 @@ fn write_difference([expected, answered]: [String; 2]) -> io::Result<()> {
     writeln!(io::stdout(), "expected: {expected}\nanswered: {answered}")
 }
 
-/// Headings for the codes from 0 up to this one, and for what cannot be read.
-pub fn headings_by_code(last: u32) -> Vec<String> {
-    let codes = (0..=last).map(|code| format!("code {code}"));
+/// Headings for these codes, and after them one for what cannot be read.
+pub fn headings_by_code(codes: &[u32]) -> Vec<String> {
+    let codes = codes.iter().map(|code| format!("code {code}"));
     codes.chain(["unread".to_string()]).collect()
 }

@@ -195,8 +195,8 @@ fn beyond(height: u64) -> [(u64, u64); 15] {
 }
 
 impl Asking {
-    /// Code 11, also where buffers are short: it wins over 12, as 1 to 10 win over
-    /// both.
+    /// Code 11, also where buffers are short: it wins over 12, as the check's codes win
+    /// over both.
     pub fn ask_beyond(&mut self) {
         for band in beyond(self.subject.height() as u64) {
             let coloured = self.dice.one_in(2);
@@ -238,7 +238,7 @@ impl Asking {
         }
     }
 
-    /// The image damaged: codes 1 to 10, and what is still accepted is painted whole.
+    /// The image damaged: the check's codes, and what is still accepted is painted whole.
     pub fn ask_damaged(&mut self, times: u32, seed: u64) {
         let mut words = self.subject.words.clone();
         damage(&mut words, times, seed);

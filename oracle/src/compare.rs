@@ -7,9 +7,9 @@ mod specimens;
 
 use crate::asking::{count_and_seed, shown_image, PROGRESS, SHOWN};
 use crate::band_requests::Asking;
+use crate::codes::{CHECK_CODES, PAINT_CODES};
 use crate::coverage::Coverage;
 use crate::full::full_images;
-use crate::requests::LAST_CODE;
 use crate::wrong_use;
 use library::{answer_words, unnoticed_fault, Library};
 use specimens::{asking_about, Block, Kind, Specimen, KIND_NAMES};
@@ -55,13 +55,27 @@ struct Difference {
     image: String,
 }
 
+/// How many images or requests got each code.
+type ByCode = BTreeMap<u32, u64>;
+
+/// None of these codes.
+fn none_of(codes: &[u32]) -> ByCode {
+    codes.iter().map(|code| (*code, 0)).collect()
+}
+
+fn add_counts<N: Ord>(sums: &mut BTreeMap<N, u64>, more: BTreeMap<N, u64>) {
+    for (name, more) in more {
+        *sums.entry(name).or_default() += more;
+    }
+}
+
 /// What was asked and found.
 struct Tally {
     images: [u64; KIND_NAMES.len()],
-    checks_by_code: [u64; 11],
-    requests_by_code: [u64; LAST_CODE as usize + 1],
-    /// Images by their maker's words, and requests by how they were made.
-    makers: BTreeMap<String, u64>,
+    checks_by_code: ByCode,
+    requests_by_code: ByCode,
+    /// Images by their maker and the check's code, and requests by how they were made.
+    makers: BTreeMap<String, ByCode>,
     makings: BTreeMap<&'static str, u64>,
     plain: u64,
     differences: u64,
@@ -73,8 +87,8 @@ impl Tally {
     fn none() -> Tally {
         Tally {
             images: [0; KIND_NAMES.len()],
-            checks_by_code: [0; 11],
-            requests_by_code: [0; LAST_CODE as usize + 1],
+            checks_by_code: none_of(&CHECK_CODES),
+            requests_by_code: none_of(&PAINT_CODES),
             makers: BTreeMap::new(),
             makings: BTreeMap::new(),
             plain: 0,
@@ -85,22 +99,15 @@ impl Tally {
     }
 
     fn add(&mut self, other: Tally) {
-        let sums = [
-            (&mut self.images[..], &other.images[..]),
-            (&mut self.checks_by_code[..], &other.checks_by_code[..]),
-            (&mut self.requests_by_code[..], &other.requests_by_code[..]),
-        ];
-        for (sum, more) in sums {
-            sum.iter_mut()
-                .zip(more)
-                .for_each(|(sum, more)| *sum += more);
+        for (sum, more) in self.images.iter_mut().zip(other.images) {
+            *sum += more;
         }
+        add_counts(&mut self.checks_by_code, other.checks_by_code);
+        add_counts(&mut self.requests_by_code, other.requests_by_code);
         for (maker, more) in other.makers {
-            *self.makers.entry(maker).or_default() += more;
+            add_counts(self.makers.entry(maker).or_default(), more);
         }
-        for (making, more) in other.makings {
-            *self.makings.entry(making).or_default() += more;
-        }
+        add_counts(&mut self.makings, other.makings);
         self.plain += other.plain;
         self.differences += other.differences;
         self.coverage.add(&other.coverage);
@@ -114,7 +121,7 @@ impl Tally {
     }
 
     fn requests(&self) -> u64 {
-        self.requests_by_code.iter().sum()
+        self.requests_by_code.values().sum()
     }
 
     fn differs(&mut self, number: u64, what: String, words: &[u32]) {
@@ -136,16 +143,12 @@ impl Tally {
         let Asking {
             subject, requests, ..
         } = asking;
-        let made = &specimen.made;
+        let (made, code) = (&specimen.made, subject.answer.code);
         self.images[specimen.kind as usize] += 1;
-        if specimen.kind != Kind::FullTables {
-            *self.makers.entry(made.clone()).or_default() += 1;
-        }
-        self.checks_by_code[subject.answer.code as usize] += 1;
-        if specimen
-            .meant
-            .is_some_and(|code| code != subject.answer.code)
-        {
+        let of_its_maker = self.makers.entry(specimen.maker().to_string());
+        *of_its_maker.or_default().entry(code).or_default() += 1;
+        *self.checks_by_code.entry(code).or_default() += 1;
+        if specimen.meant.is_some_and(|meant| meant != code) {
             let what = format!("{made}: the slow check answers {:?}", subject.answer);
             self.differs(number, what, &subject.words);
         }
@@ -153,7 +156,8 @@ impl Tally {
             self.differs(number, format!("{made}, check: {what}"), &subject.words);
         }
         for (nth, (how, request)) in requests.into_iter().enumerate() {
-            self.requests_by_code[request.refusal().0 as usize] += 1;
+            let code = request.refusal().0;
+            *self.requests_by_code.entry(code).or_default() += 1;
             *self.makings.entry(how).or_default() += 1;
             self.plain += u64::from(!request.coloured);
             let lent_words = answer_words(number.wrapping_add(nth as u64), 1);
@@ -254,15 +258,7 @@ impl Tally {
             writeln!(out, "difference: image {number}, {what}\nimage {image}")?;
         }
         if lists_coverage {
-            self.coverage.write(&mut out)?;
-            write_counts(&mut out, "images", self.makers.iter())?;
-            let codes = self.checks_by_code.iter().enumerate();
-            write_counts(&mut out, "images by the check's code", codes)?;
-            write_counts(&mut out, "requests", self.makings.iter())?;
-            let codes = self.requests_by_code.iter().enumerate();
-            write_counts(&mut out, "requests by code", codes)?;
-            let coloured = self.requests() - self.plain;
-            writeln!(out, "requests: plain {}, coloured {coloured}", self.plain)?;
+            self.write_coverage(&mut out)?;
         }
         let kinds = KIND_NAMES.iter().zip(self.images);
         let kinds: Vec<String> = kinds
@@ -281,13 +277,28 @@ impl Tally {
             _ => Ok(ExitCode::FAILURE),
         }
     }
+
+    fn write_coverage(&self, out: &mut impl io::Write) -> io::Result<()> {
+        self.coverage.write(out)?;
+        write_counts(out, "images by the check's code", &self.checks_by_code)?;
+        writeln!(out, "images by maker, and by the check's code")?;
+        for (maker, by_code) in &self.makers {
+            let images: u64 = by_code.values().sum();
+            write_counts(out, &format!("  {maker}, {images} images"), by_code)?;
+        }
+        write_counts(out, "requests", &self.makings)?;
+        write_counts(out, "requests by code", &self.requests_by_code)?;
+        let coloured = self.requests() - self.plain;
+        writeln!(out, "requests: plain {}, coloured {coloured}", self.plain)
+    }
 }
 
-fn write_counts<'c, N: std::fmt::Display>(
+fn write_counts<N: std::fmt::Display>(
     out: &mut impl io::Write,
     what: &str,
-    counts: impl Iterator<Item = (N, &'c u64)>,
+    counts: &BTreeMap<N, u64>,
 ) -> io::Result<()> {
-    let counts: Vec<String> = counts.map(|(name, n)| format!("{name}: {n}")).collect();
+    let counts = counts.iter().map(|(name, n)| format!("{name}: {n}"));
+    let counts: Vec<String> = counts.collect();
     writeln!(out, "{what}: {}", counts.join(", "))
 }

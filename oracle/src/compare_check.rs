@@ -4,6 +4,7 @@
 use crate::asking::{
     count_and_seed, headings_by_code, in_streams, Asked, Comparison, LONGEST_IMAGE,
 };
+use crate::codes::{nth_of, CHECK_CODES};
 use crate::full::full_images;
 use crate::generate::{code_targets, damage, random_image};
 use crate::limits::{line_of, stream_of};
@@ -15,14 +16,11 @@ use std::process::ExitCode;
 /// The command that runs the program.
 const PROGRAM: &str = "PIVOTDAWN_CHECKLINES";
 
-/// The last code of the check; the heading after it is that of `unread`.
-const LAST_CODE: u32 = 10;
-
 pub fn command(options: &[String]) -> io::Result<ExitCode> {
     let Some((count, seed)) = count_and_seed(options) else {
         return Ok(wrong_use("compare-check [COUNT] [SEED], two numbers"));
     };
-    let Some(mut comparison) = Comparison::with(PROGRAM, headings_by_code(LAST_CODE)) else {
+    let Some(mut comparison) = Comparison::with(PROGRAM, headings_by_code(&CHECK_CODES)) else {
         return Ok(wrong_use("start it by oracle/run"));
     };
     comparison.ask_all(streams(count, seed))?;
@@ -52,13 +50,13 @@ fn image(words: Vec<u32>, made: impl Into<String>, meant: Option<u32>) -> Asked 
         at_odds: is_at_odds.then(|| format!("{made}: the slow check answers {expected}")),
         expected,
         made,
-        heading: answer.code as usize,
+        heading: nth_of(&CHECK_CODES, answer.code),
         closer: None,
     }
 }
 
 fn unread(bytes: Vec<u8>, made: &str) -> Asked {
-    Asked::unread(bytes, made, LAST_CODE as usize + 1)
+    Asked::unread(bytes, made, CHECK_CODES.len())
 }
 
 /// The images of a seed, without end.

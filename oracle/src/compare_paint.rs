@@ -6,10 +6,11 @@ use crate::asking::{
     count_and_seed, headings_by_code, in_streams, Asked, Comparison, LONGEST_IMAGE,
 };
 use crate::band_requests::{Asking, Made};
+use crate::codes::PAINT_CODES;
 use crate::full::full_images;
 use crate::generate::random_image;
 use crate::paintlines::{asked, bytes, Form, HEAD_WORDS, MOST_LENT, PROGRAM};
-use crate::requests::{Request, Subject, LAST_CODE};
+use crate::requests::{Request, Subject};
 use crate::wrong_use;
 use std::io;
 use std::process::ExitCode;
@@ -19,7 +20,7 @@ pub fn command(options: &[String]) -> io::Result<ExitCode> {
     let Some((count, seed)) = count_and_seed(options) else {
         return Ok(wrong_use("compare-paint [COUNT] [SEED], two numbers"));
     };
-    let Some(mut comparison) = Comparison::with(PROGRAM, headings_by_code(LAST_CODE)) else {
+    let Some(mut comparison) = Comparison::with(PROGRAM, headings_by_code(&PAINT_CODES)) else {
         return Ok(wrong_use("start it by oracle/run"));
     };
     comparison.ask_all(streams(count, seed))?;
@@ -165,5 +166,5 @@ fn largest() -> Asked {
 }
 
 fn unread(bytes: Vec<u8>, made: String) -> Asked {
-    Asked::unread(bytes, &made, LAST_CODE as usize + 1)
+    Asked::unread(bytes, &made, PAINT_CODES.len())
 }

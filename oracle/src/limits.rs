@@ -19,6 +19,7 @@ mod runs;
 pub use order::broken_for;
 
 use crate::asking::bytes_of;
+use crate::codes::CHECK_CODES;
 use crate::draft::{edge_record, Draft};
 use crate::layout::{
     path_flags, BLANK, DIRECT, EDGES, GLYPHS, NODES, PLACED_LABELS, POINTS, SUBGRAPHS, WIDTH_RANGES,
@@ -173,7 +174,7 @@ fn faults_of(cases: &[Case]) -> Vec<String> {
 }
 
 fn write_counts(cases: &[Case]) -> io::Result<()> {
-    for code in 0..=10 {
+    for code in CHECK_CODES {
         let images = cases.iter().filter(|case| case.stated.code == code).count();
         writeln!(io::stdout(), "code {code}: {images}")?;
     }

@@ -13,6 +13,7 @@ mod band_requests;
 mod bench;
 #[cfg(original)]
 mod cases;
+mod codes;
 #[cfg(product)]
 mod compare;
 mod compare_check;

@@ -12,11 +12,12 @@ mod things;
 mod together;
 
 use crate::cases::{self, Asked};
+use crate::codes::PAINT_CODES;
 use crate::coverage::Coverage;
 use crate::draft::Draft;
 use crate::generate::accepted;
 use crate::paintlines::{answer, bytes, Form};
-use crate::requests::{Request, Subject, LAST_CODE};
+use crate::requests::{Request, Subject};
 use crate::stored::{self, Stored};
 use crate::wrong_use;
 use std::collections::BTreeSet;
@@ -129,7 +130,7 @@ pub fn command(options: &[String]) -> io::Result<ExitCode> {
     if stored::write_faults(&faults)? {
         return Ok(ExitCode::FAILURE);
     }
-    for code in 0..=LAST_CODE {
+    for code in PAINT_CODES {
         let requests = cases.iter().filter(|case| case.stated.0 == code).count();
         writeln!(io::stdout(), "code {code}: {requests}")?;
     }

@@ -2,6 +2,7 @@
 //! must be answered to it.
 
 use crate::asking::{bytes_of, Asked};
+use crate::codes::{nth_of, PAINT_CODES};
 use crate::hex_row;
 use crate::requests::{Request, BUFFER_NAMES};
 
@@ -66,7 +67,7 @@ pub fn asked(request: Request, form: Form, made: &str) -> Asked {
         head_words: HEAD_WORDS,
         expected: answer(&request, form),
         made: format!("{made}, {request}"),
-        heading: request.refusal().0 as usize,
+        heading: nth_of(&PAINT_CODES, request.refusal().0),
         at_odds: None,
         closer: (form == Form::Short).then(|| {
             let again: Box<dyn Fn() -> Asked> =

@@ -1,5 +1,5 @@
 //! Bands of an image that painting is asked for, and what must be answered: code and
-//! place, and every word of each lent buffer. Refusals 1 to 10 come from the slow
+//! place, and every word of each lent buffer. The check's refusals come from the slow
 //! check, 11 and 12 and all that is not painted from document 01's own words, cells
 //! and colours from the original. Whoever asks, the program or the library, is held
 //! against this.
@@ -8,9 +8,6 @@ use crate::layout::room;
 use crate::paint::{paint_both, Sheet};
 use crate::slow_check::{slow_check, Answer};
 use std::rc::Rc;
-
-/// The last code of painting.
-pub const LAST_CODE: u32 = 12;
 
 /// The buffers by their places in refusal 12, less one.
 pub const CELLS: usize = 0;

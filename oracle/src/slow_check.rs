@@ -1,10 +1,11 @@
-//! A second check of a sheet image, written from document 01 and, where that
-//! leaves a point open, from docs/DECISIONS.md (D16 to D24).
+//! A second check of a sheet image, written from document 01, from request
+//! #105 (code 13) and, where they leave a point open, from docs/DECISIONS.md
+//! (D16 to D24).
 //!
 //! It is slow and plain on purpose: every rule is worded as the table
-//! "Refusals in order" words it, and the rows that a thing touches are
-//! gathered write by write, never by reasoning about spans. It answers for
-//! every list of words, with sums in 64 bits.
+//! "Refusals in order" or the request words it, and the rows that a thing
+//! touches are gathered write by write, never by reasoning about spans. It
+//! answers for every list of words, with sums in 64 bits.
 
 use crate::layout::{
     BLANK, BOXED, CODE_POINT_LIMIT, COORDINATE_LIMIT, CORNER, DUMMY, EDGES, ELEMENTS,
@@ -41,7 +42,8 @@ const ELEMENT_KINDS: [usize; 3] = [NODES, EDGES, SUBGRAPHS];
 /// A refusal: its code and its place.
 type Refusal = (u32, u64);
 
-/// Codes 1 to 10 in order: a lower code wins over the whole image (D16).
+/// The codes in the order 1 to 5, 13, 6 to 10: the earlier one wins over the
+/// whole image (D16).
 pub fn slow_check(words: &[u32]) -> Answer {
     let refusal = refusal_of_the_form(words).or_else(|| refusal_of_the_listing(&Image { words }));
     match refusal {
@@ -60,7 +62,7 @@ pub fn slow_check(words: &[u32]) -> Answer {
 
 /// First and last sheet row that the node, edge or subgraph touches; none
 /// where it touches none, where there is no such thing, or where the image
-/// has no ink to speak of because codes 1 to 6 refuse it.
+/// has no ink to speak of because its form is refused.
 pub fn touched_rows(words: &[u32], kind: u32, index: u32) -> Option<(u32, u32)> {
     if refusal_of_the_form(words).is_some() {
         return None;
@@ -92,7 +94,7 @@ fn rows_of(image: &Image, kind: usize, index: u32) -> Option<(u32, u32)> {
     Some((*touched.first()?, *touched.last()?))
 }
 
-/// Codes 1 to 6: those which come before any talk of elements.
+/// Codes 1 to 5, 13 and 6: those which come before any talk of elements.
 fn refusal_of_the_form(words: &[u32]) -> Option<Refusal> {
     let image = Image { words };
     code_1_too_short(words)
@@ -100,10 +102,11 @@ fn refusal_of_the_form(words: &[u32]) -> Option<Refusal> {
         .or_else(|| code_3_length(&image))
         .or_else(|| code_4_field(&image))
         .or_else(|| code_5_width_range(&image))
+        .or_else(|| code_13_control_character(&image))
         .or_else(|| code_6_corner_below_zero(&image))
 }
 
-/// Codes 7 to 10, on an image which codes 1 to 6 let pass.
+/// Codes 7 to 10, on an image whose form is in order.
 fn refusal_of_the_listing(image: &Image) -> Option<Refusal> {
     code_7_listed_twice(image)
         .or_else(|| code_8_rows_out_of_order(image))
@@ -346,7 +349,7 @@ fn width_range_field_breaks(fields: &[u32; 12], field: usize) -> bool {
     }
 }
 
-// ---- Codes 5 and 6 -------------------------------------------------------
+// ---- Codes 5, 13 and 6 ---------------------------------------------------
 
 /// "a width range has first > last, first not above the last before it, or
 /// holds 0020, 0022, 005B or 005D"
@@ -363,6 +366,18 @@ fn code_5_width_range(image: &Image) -> Option<Refusal> {
             return Some((5, image.record_start(WIDTH_RANGES, range)));
         }
         last_before = Some(last);
+    }
+    None
+}
+
+/// "Values 0000 to 001F and 007F to 009F are no longer glyphs": no word of the
+/// glyph table may be one, whether a label uses it or not.
+fn code_13_control_character(image: &Image) -> Option<Refusal> {
+    for glyph in 0..image.count(GLYPHS) {
+        let place = image.record_start(GLYPHS, glyph);
+        if matches!(image.word(place), 0x0000..=0x001F | 0x007F..=0x009F) {
+            return Some((13, place));
+        }
     }
     None
 }

@@ -31,6 +31,16 @@ pub struct Specimen {
     pub meant: Option<u32>,
 }
 
+impl Specimen {
+    /// Its name where images are counted by maker and code: the code is not said twice.
+    pub fn maker(&self) -> &str {
+        match self.kind {
+            Kind::ForACode | Kind::FullTables => KIND_NAMES[self.kind as usize],
+            _ => &self.made,
+        }
+    }
+}
+
 /// Of 20 images 8 are random, 4 damaged (2 once, 1 twice, 1 three times), 2 made for a
 /// code and 6 structured.
 const OF_TWENTY: u64 = 20;

@@ -486,7 +486,10 @@ fn element_rows(cases: &mut Cases) {
 fn glyphs(cases: &mut Cases) {
     let base = &two_of(GLYPHS);
     let spot = Spot::of(base, GLYPHS, 0, "");
-    let scalar_values = [0, 0x20, 0xD7FF, 0xE000, 0xFFFF, 0x1_0000, CODE_POINT_LIMIT];
+    // A control character is a scalar value, so it is left to code 13.
+    let (_, draft) = spot.with(0);
+    cases.refused("glyph 0000", &draft, 13, spot.place());
+    let scalar_values = [0x20, 0xD7FF, 0xE000, 0xFFFF, 0x1_0000, CODE_POINT_LIMIT];
     for value in scalar_values {
         let (_, draft) = spot.with(value);
         cases.accepted(format!("glyph {value:04X}"), &draft);
