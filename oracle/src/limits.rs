@@ -5,6 +5,7 @@
 //! Each case also states its answer, worked out by hand from how the image is
 //! made, so that a case cannot quietly come to test something else.
 
+mod controls;
 mod corners;
 mod fields;
 mod header;
@@ -82,6 +83,7 @@ fn all_cases() -> Vec<Case> {
     ink_of_edges::add(&mut cases);
     runs::add(&mut cases);
     order::add(&mut cases);
+    controls::add(&mut cases);
     cases.list
 }
 

@@ -1,23 +1,25 @@
-//! Which of several faults is named: of two codes the lower, of one code the
-//! first place.
+//! Which of several faults is named: of two codes the one that is decided first,
+//! of one code the first place.
 
 use super::{one_of_each, Cases};
+use crate::codes::CHECK_CODES;
 use crate::draft::{edge_record, Draft};
 use crate::layout::{
-    path_flags, CORNER, EDGES, ELEMENTS, HEADER_WORDS, MULTI_SEGMENT, NODES, RECORD_WORDS,
+    path_flags, CORNER, EDGES, ELEMENTS, GLYPHS, HEADER_WORDS, MULTI_SEGMENT, NODES, RECORD_WORDS,
     RUN_CAPACITY_WORD, SIMPLE, TABLES, TABLE_NAMES, WIDTH_RANGES,
 };
 
 pub fn add(cases: &mut Cases) {
     cases.accepted_with_runs("whole image for the pairs of codes", &whole(), 2);
-    for code in 1..=10 {
-        refused_for(cases, &[code]);
-        for higher in code + 1..=10 {
-            refused_for(cases, &[code, higher]);
+    let codes = &CHECK_CODES[1..];
+    for (nth, code) in codes.iter().enumerate() {
+        refused_for(cases, &[*code]);
+        for later in &codes[nth + 1..] {
+            refused_for(cases, &[*code, *later]);
         }
-        let all: Vec<u32> = (code..=10).collect();
+        let all = &codes[nth..];
         if all.len() > 2 {
-            refused_for(cases, &all);
+            refused_for(cases, all);
         }
     }
     two_fields(cases);
@@ -41,14 +43,18 @@ fn whole() -> Draft {
     draft
 }
 
-/// Breaks the rule of this code and no rule of a lower one. Codes 1 and 3 are
-/// about the length, which a draft always has right.
+/// Breaks the rule of this code and no rule that is decided before it. Codes 1 and
+/// 3 are about the length, which a draft always has right.
 fn break_rule(draft: &mut Draft, code: u32) {
     match code {
         2 => draft.head[0] = 1_025,
         // The very last word of the image.
         4 => draft.tables[WIDTH_RANGES][1][2] = 1,
         5 => draft.tables[WIDTH_RANGES][0][0] = 0x370,
+        // A glyph that no label uses.
+        13 => {
+            draft.add(GLYPHS, &[0x1B]);
+        }
         6 => draft.tables[EDGES][1][7] = 3,
         7 => draft.list(NODES, 0, 2, 2),
         8 => draft.tables[ELEMENTS][0][2] = 3,
@@ -63,6 +69,7 @@ fn place_of(draft: &Draft, code: u32) -> u32 {
         3 => draft.to_words().len() as u32,
         4 => draft.place(WIDTH_RANGES, 1, 2),
         5 => draft.place(WIDTH_RANGES, 0, 0),
+        13 => draft.place(GLYPHS, 0, 0),
         6 => draft.place(EDGES, 1, 0),
         7 => draft.place(ELEMENTS, 3, 0),
         8 => draft.place(ELEMENTS, 0, 0),
@@ -72,7 +79,8 @@ fn place_of(draft: &Draft, code: u32) -> u32 {
     }
 }
 
-/// An image broken for these codes, ascending, gets the first of them.
+/// An image broken for these codes, in the order in which they are decided, gets
+/// the first of them.
 fn refused_for(cases: &mut Cases, codes: &[u32]) {
     let (words, place) = broken_for(codes);
     let name = format!("an image broken for {codes:?}");
