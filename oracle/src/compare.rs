@@ -148,8 +148,9 @@ impl Tally {
         let of_its_maker = self.makers.entry(specimen.maker().to_string());
         *of_its_maker.or_default().entry(code).or_default() += 1;
         *self.checks_by_code.entry(code).or_default() += 1;
-        if specimen.meant.is_some_and(|meant| meant != code) {
-            let what = format!("{made}: the slow check answers {:?}", subject.answer);
+        let answer = subject.answer;
+        if specimen.meant.is_some_and(|meant| !meant.is_met_by(answer)) {
+            let what = format!("{made}: the slow check answers {answer:?}");
             self.differs(number, what, &subject.words);
         }
         if let Some(what) = library.check_differs(&subject, answer_words(number, 2)) {
@@ -189,14 +190,14 @@ fn tally_block(block: u64, count: u64, seed: u64) -> Tally {
 fn tally_full(count: u64) -> Tally {
     let mut tally = Tally::none();
     let mut library = Library::new();
-    for (number, (code, words)) in (count..).zip(full_images()) {
+    for (number, (meant, words)) in (count..).zip(full_images()) {
         let mut asking = Asking::about(words, 0, MOST_LENT);
         asking.ask_two_cuttings(number);
         let specimen = Specimen {
             kind: Kind::FullTables,
-            made: format!("every table full, for code {code}"),
+            made: format!("every table full, for code {}", meant.code),
             words: Vec::new(),
-            meant: Some(code),
+            meant: Some(meant),
         };
         tally.take(&mut library, specimen, asking, number);
     }

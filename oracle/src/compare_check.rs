@@ -4,7 +4,7 @@
 use crate::asking::{
     count_and_seed, headings_by_code, in_streams, Asked, Comparison, LONGEST_IMAGE,
 };
-use crate::codes::{nth_of, CHECK_CODES};
+use crate::codes::{nth_of, Meant, Target, CHECK_CODES};
 use crate::full::full_images;
 use crate::generate::{code_targets, damage, random_image};
 use crate::limits::{line_of, stream_of};
@@ -30,20 +30,20 @@ pub fn command(options: &[String]) -> io::Result<ExitCode> {
 
 /// What is asked in one run of the program after another.
 fn streams(count: usize, seed: u64) -> impl Iterator<Item = Vec<Asked>> {
-    let full = full_images().into_iter().map(|(code, words)| {
-        let made = format!("every table full, for code {code}");
-        vec![image(words, made, Some(code))]
+    let full = full_images().into_iter().map(|(meant, words)| {
+        let made = format!("every table full, for code {}", meant.code);
+        vec![image(words, made, Some(meant))]
     });
     in_streams(Images::of(seed).take(count))
         .chain(full)
         .chain(endings())
 }
 
-/// An image, and the code for which it was made, where it was made for one.
-fn image(words: Vec<u32>, made: impl Into<String>, meant: Option<u32>) -> Asked {
+/// An image, and what it was made to get, where it was made for a code.
+fn image(words: Vec<u32>, made: impl Into<String>, meant: Option<Meant>) -> Asked {
     let (made, answer) = (made.into(), slow_check(&words));
     let expected = line_of(answer);
-    let is_at_odds = meant.is_some_and(|code| code != answer.code);
+    let is_at_odds = meant.is_some_and(|meant| !meant.is_met_by(answer));
     Asked {
         bytes: stream_of(&words),
         head_words: 1,
@@ -64,7 +64,7 @@ struct Images {
     seed: u64,
     number: u64,
     /// Images made for a code, that were not yet asked.
-    targets: std::vec::IntoIter<(u32, Vec<u32>)>,
+    targets: std::vec::IntoIter<Target>,
 }
 
 impl Images {
@@ -76,7 +76,7 @@ impl Images {
         }
     }
 
-    fn next_target(&mut self, seed: u64) -> (u32, Vec<u32>) {
+    fn next_target(&mut self, seed: u64) -> Target {
         loop {
             if let Some(target) = self.targets.next() {
                 return target;
@@ -101,9 +101,9 @@ impl Iterator for Images {
             10..=12 => 2,
             13..=15 => 3,
             _ => {
-                let (code, words) = self.next_target(seed);
-                let made = format!("image {number}, for code {code}");
-                return Some(image(words, made, Some(code)));
+                let (meant, words) = self.next_target(seed);
+                let made = format!("image {number}, for code {}", meant.code);
+                return Some(image(words, made, Some(meant)));
             }
         };
         let mut words = random_image(seed);
@@ -116,11 +116,12 @@ impl Iterator for Images {
 /// Streams that end inside an image or hold one that is too long, and one that
 /// holds the longest; the program may not be led to answer more.
 fn endings() -> Vec<Vec<Asked>> {
-    let whole = || image(vec![0; 12], "12 words", Some(0));
+    let whole = || image(vec![0; 12], "12 words", Some(Meant::at(0, 0)));
     let mut broken_off = stream_of(&[0; 12]);
     broken_off.pop();
     let too_long = [stream_of(&vec![0; LONGEST_IMAGE + 1]), whole().bytes].concat();
-    let longest = image(vec![0; LONGEST_IMAGE], "the longest image", Some(3));
+    let meant = Some(Meant::at(3, 12));
+    let longest = image(vec![0; LONGEST_IMAGE], "the longest image", meant);
     vec![
         Vec::new(),
         vec![whole(), unread(broken_off, "a byte missing")],

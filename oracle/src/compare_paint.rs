@@ -6,7 +6,7 @@ use crate::asking::{
     count_and_seed, headings_by_code, in_streams, Asked, Comparison, LONGEST_IMAGE,
 };
 use crate::band_requests::{Asking, Made};
-use crate::codes::PAINT_CODES;
+use crate::codes::{Target, PAINT_CODES};
 use crate::full::full_images;
 use crate::generate::random_image;
 use crate::paintlines::{asked, bytes, Form, HEAD_WORDS, MOST_LENT, PROGRAM};
@@ -78,10 +78,10 @@ fn requests_of(number: u64, seed: u64) -> Vec<Asked> {
 
 /// The accepted one in the tallest bands that can be lent, with just the room; the
 /// others once.
-fn requests_of_full((code, words): (u32, Vec<u32>)) -> Vec<Asked> {
+fn requests_of_full((meant, words): Target) -> Vec<Asked> {
     let mut asking = Asking::about(words, 0, MOST_LENT);
     let most_rows = MOST_LENT / asking.subject.width();
-    let height = match code {
+    let height = match meant.code {
         0 => asking.subject.height(),
         _ => most_rows,
     };
@@ -93,7 +93,7 @@ fn requests_of_full((code, words): (u32, Vec<u32>)) -> Vec<Asked> {
         }
     }
     let told = |(how, request): Made| {
-        let made = format!("every table full, for code {code}, {how}");
+        let made = format!("every table full, for code {}, {how}", meant.code);
         asked(request, Form::Short, &made)
     };
     asking.requests.into_iter().map(told).collect()

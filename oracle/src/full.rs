@@ -1,6 +1,7 @@
 //! Images with every table at its limit, 81,932 words each: too long to be
 //! stored, so `compare-check` makes them anew.
 
+use crate::codes::{Meant, Target};
 use crate::draft::{edge_record, Draft};
 use crate::layout::{
     path_flags, COORDINATE_LIMIT, EDGES, ELEMENTS, FIRST_COUNT_WORD, GLYPHS, HEADER_LIMITS,
@@ -9,42 +10,85 @@ use crate::layout::{
 };
 
 /// One that is accepted, and others in which the length, the last record of a
-/// table or the run capacity is at fault; each with the code that it must get.
-pub fn full_images() -> Vec<(u32, Vec<u32>)> {
+/// table, a glyph or the run capacity is at fault; each with what it must get.
+pub fn full_images() -> Vec<Target> {
     let full = full_draft();
     let words = full.to_words();
     let mut images = vec![
-        (0, words.clone()),
-        (3, words[..words.len() - 1].to_vec()),
-        (3, [&words[..], &[0]].concat()),
+        (Meant::code(0), words.clone()),
+        (Meant::code(3), words[..words.len() - 1].to_vec()),
+        (Meant::code(3), [&words[..], &[0]].concat()),
     ];
-    for (code, table, field, value) in [
-        (4, NODES, 8, 1),
-        (4, EDGES, 9, 1),
-        (4, SUBGRAPHS, 6, 1),
-        (4, PLACED_LABELS, 0, 1_024),
-        (4, ELEMENTS, 3, COORDINATE_LIMIT + 1),
-        (4, POINTS, 1, COORDINATE_LIMIT + 1),
-        (4, GLYPHS, 0, 0xD800),
-        (4, WIDTH_RANGES, 2, 1),
-        (5, WIDTH_RANGES, 0, last_of_range(1_022)),
-        (6, EDGES, 7, 2),
-        (7, ELEMENTS, 1, 0),
-        (8, ELEMENTS, 2, 1_022),
-        (9, NODES, 1, 1_024),
-        (9, EDGES, 3, 300),
-        (9, SUBGRAPHS, 3, 3),
-        (9, ELEMENTS, 3, 1_023),
-    ] {
-        let mut draft = full.clone();
-        if let Some(last) = draft.tables[table].last_mut() {
-            last[field] = value;
-        }
-        images.push((code, draft.to_words()));
+    for (code, fault) in LAST_RECORD_FAULTS {
+        images.push((Meant::code(code), with_faults(&full, &[fault])));
     }
+    images.extend(images_with_controls(&full));
     let mut too_few_runs = full;
     too_few_runs.head[RUN_CAPACITY_WORD] -= 1;
-    images.push((10, too_few_runs.to_words()));
+    images.push((Meant::code(10), too_few_runs.to_words()));
+    images
+}
+
+/// A table, a field of its last record, and the value that is put there.
+type Fault = (usize, usize, u32);
+
+const BAD_RANGE: Fault = (WIDTH_RANGES, 0, last_of_range(1_022));
+const CORNER_BELOW_0: Fault = (EDGES, 7, 2);
+const DOUBLED_ELEMENT: Fault = (ELEMENTS, 1, 0);
+const CONTROL: Fault = (GLYPHS, 0, 0x9F);
+
+/// Each with its code.
+const LAST_RECORD_FAULTS: [(u32, Fault); 17] = [
+    (4, (NODES, 8, 1)),
+    (4, (EDGES, 9, 1)),
+    (4, (SUBGRAPHS, 6, 1)),
+    (4, (PLACED_LABELS, 0, 1_024)),
+    (4, (ELEMENTS, 3, COORDINATE_LIMIT + 1)),
+    (4, (POINTS, 1, COORDINATE_LIMIT + 1)),
+    (4, (GLYPHS, 0, 0xD800)),
+    (4, (WIDTH_RANGES, 2, 1)),
+    (5, BAD_RANGE),
+    (13, CONTROL),
+    (6, CORNER_BELOW_0),
+    (7, DOUBLED_ELEMENT),
+    (8, (ELEMENTS, 2, 1_022)),
+    (9, (NODES, 1, 1_024)),
+    (9, (EDGES, 3, 300)),
+    (9, (SUBGRAPHS, 3, 3)),
+    (9, (ELEMENTS, 3, 1_023)),
+];
+
+fn with_faults(full: &Draft, faults: &[Fault]) -> Vec<u32> {
+    let mut draft = full.clone();
+    for (table, field, value) in faults {
+        if let Some(last) = draft.tables[*table].last_mut() {
+            last[*field] = *value;
+        }
+    }
+    draft.to_words()
+}
+
+/// The first glyph or one in the middle, which no label uses, or all; and the last one
+/// beside other faults.
+fn images_with_controls(full: &Draft) -> Vec<Target> {
+    let glyphs = full.count(GLYPHS);
+    let mut images = Vec::new();
+    for (first, after) in [(0, 1), (glyphs / 2, glyphs / 2 + 1), (0, glyphs)] {
+        let mut draft = full.clone();
+        draft.tables[GLYPHS][first as usize..after as usize].fill(vec![0x1F]);
+        images.push((
+            Meant::at(13, full.place(GLYPHS, first, 0)),
+            draft.to_words(),
+        ));
+    }
+    let last = full.place(GLYPHS, glyphs - 1, 0);
+    for later in [CORNER_BELOW_0, DOUBLED_ELEMENT] {
+        let words = with_faults(full, &[CONTROL, later]);
+        images.push((Meant::at(13, last), words));
+    }
+    let bad_range = full.place(WIDTH_RANGES, full.count(WIDTH_RANGES) - 1, 0);
+    let words = with_faults(full, &[CONTROL, BAD_RANGE]);
+    images.push((Meant::at(5, bad_range), words));
     images
 }
 
@@ -102,6 +146,6 @@ fn nth_element(nth: u32) -> Vec<u32> {
     }
 }
 
-fn last_of_range(nth: u32) -> u32 {
+const fn last_of_range(nth: u32) -> u32 {
     0x100 + 2 * nth
 }

@@ -4,6 +4,9 @@
 //! accepted: their element list is made from the rows that the slow check
 //! finds touched.
 
+pub mod controls;
+
+use crate::codes::{Meant, Target};
 use crate::dice::Dice;
 use crate::draft::{edge_record, Draft};
 use crate::layout::{
@@ -14,6 +17,7 @@ use crate::layout::{
     WIDTH_RANGES, X_FLOW_BIT,
 };
 use crate::slow_check::{all_touched_rows, slow_check, touched_rows, Answer};
+use controls::{put_controls, sometimes_put_controls};
 
 fn answer_to(draft: &Draft) -> Answer {
     slow_check(&draft.to_words())
@@ -49,6 +53,8 @@ fn random_draft(dice: &mut Dice) -> Draft {
     }
     list_things(dice, &mut draft);
     set_run_capacity(dice, &mut draft);
+    // At the end: a sheet that is refused for them has no rows to be listed for.
+    sometimes_put_controls(dice, &mut draft);
     draft
 }
 
@@ -127,17 +133,17 @@ fn random_colour(dice: &mut Dice) -> u32 {
 
 // ---- Glyphs and their widths ---------------------------------------------
 
-/// Any scalar value, mostly ones which the likely ranges make wide or of
-/// width 0, or which the painters write themselves.
+/// Any glyph, mostly ones which the likely ranges make wide or of width 0, which
+/// the painters write themselves, or which stand just beside what is no glyph.
 fn random_glyph(dice: &mut Dice) -> u32 {
-    const NOTABLE: [u32; 16] = [
+    const NOTABLE: [u32; 18] = [
         0x6F22, 0x5B57, 0x0301, 0x0308, 0x200D, 0xAC00, 0x1F600, 0x0020, 0x0022, 0x005B, 0x005D,
-        0x0000, 0xD7FF, 0xE000, 0x10FFFF, 0x2500,
+        0x007E, 0x00A0, 0x00A1, 0xD7FF, 0xE000, 0x10FFFF, 0x2500,
     ];
     match dice.below(10) {
-        0..=4 => 0x21 + dice.below(0x5E),
+        0..=4 => 0x20 + dice.below(0x5F),
         5..=7 => dice.pick(&NOTABLE),
-        8 => dice.below(0xD800),
+        8 => 0xA0 + dice.below(0xD800 - 0xA0),
         _ => 0xE000 + dice.below(CODE_POINT_LIMIT - 0xE000 + 1),
     }
 }
@@ -183,16 +189,18 @@ fn add_width_ranges(dice: &mut Dice, draft: &mut Draft) {
 }
 
 fn likely_ranges(dice: &mut Dice) -> Vec<Vec<u32>> {
-    const LIKELY: [[u32; 3]; 12] = [
+    const LIKELY: [[u32; 3]; 13] = [
+        // Control characters are no glyphs, but a range may hold them.
         [0x0000, 0x001F, 0],
         [0x0041, 0x0045, 2],
         [0x0061, 0x0063, 0],
+        [0x007E, 0x00A0, 2],
         [0x0300, 0x036F, 0],
         [0x1100, 0x115F, 2],
         [0x200B, 0x200F, 0],
         [0x4E00, 0x9FFF, 2],
         [0xAC00, 0xD7A3, 2],
-        // Surrogates are no glyphs, but a range may hold them.
+        // Nor are surrogates.
         [0xD800, 0xDFFF, 0],
         [0xFE00, 0xFE0F, 0],
         [0x1F300, 0x1F64F, 2],
@@ -484,13 +492,19 @@ fn set_run_capacity(dice: &mut Dice, draft: &mut Draft) {
 
 // ---- Damage --------------------------------------------------------------
 
-/// Values at which some rule of document 01 changes its answer.
-const BOUNDARY_VALUES: [u32; 26] = [
+/// Values at which some rule of the check changes its answer.
+const BOUNDARY_VALUES: [u32; 32] = [
     0,
     1,
     2,
     3,
     9,
+    0x1F,
+    0x20,
+    0x7E,
+    0x7F,
+    0x9F,
+    0xA0,
     1_023,
     1_024,
     1_025,
@@ -582,7 +596,7 @@ fn damage_a_record(dice: &mut Dice, words: &mut Vec<u32>) {
     let Some(mut draft) = Draft::from_words(words) else {
         return flip_a_bit(dice, words);
     };
-    match dice.below(12) {
+    match dice.below(13) {
         0 | 1 => narrow_an_element(dice, &mut draft),
         2 => repeat_an_element(dice, &mut draft),
         3 => remove_an_element(dice, &mut draft),
@@ -592,6 +606,9 @@ fn damage_a_record(dice: &mut Dice, words: &mut Vec<u32>) {
         8 => lower_the_run_capacity(dice, &mut draft),
         9 => move_a_span_out(dice, &mut draft),
         10 => remove_a_record(dice, &mut draft),
+        11 => {
+            put_controls(dice, &mut draft);
+        }
         _ => raise_the_height(dice, &mut draft),
     }
     *words = draft.to_words();
@@ -765,14 +782,14 @@ fn raise_the_height(dice: &mut Dice, draft: &mut Draft) {
 
 // ---- Images for each code ------------------------------------------------
 
-/// Images together with the code that each must get. What is expected
+/// Images together with what each must get: the code, for code 13 the place too. It
 /// follows from how the image was made out of an accepted one.
-pub fn code_targets(seed: u64) -> Vec<(u32, Vec<u32>)> {
+pub fn code_targets(seed: u64) -> Vec<Target> {
     let mut dice = Dice::new(seed ^ 0x7A26_E700);
     let base = accepted_base(&mut dice);
-    let mut targets = vec![(0, base.to_words())];
+    let mut coded = vec![(0, base.to_words())];
     let mut add = |code: u32, images: Vec<Vec<u32>>| {
-        targets.extend(images.into_iter().map(|image| (code, image)));
+        coded.extend(images.into_iter().map(|image| (code, image)));
     };
     add(1, targets_of_code_1(&mut dice, &base));
     add(2, targets_of_code_2(&mut dice, &base));
@@ -786,10 +803,12 @@ pub fn code_targets(seed: u64) -> Vec<(u32, Vec<u32>)> {
     add(9, targets_of_code_9_by_one_row(&base));
     add(10, targets_of_code_10(&base));
     add(0, vec![listed_exactly(&base).to_words()]);
-    targets.extend(targets_by_hand(&base));
-    targets.extend(targets_at_the_limits(&base));
-    targets.extend(targets_named_in_the_text());
-    targets
+    coded.extend(targets_by_hand(&base));
+    coded.extend(targets_at_the_limits(&base));
+    coded.extend(targets_named_in_the_text());
+    let coded = coded.into_iter();
+    let targets = coded.map(|(code, image)| (Meant::code(code), image));
+    targets.chain(controls::targets(&mut dice, &base)).collect()
 }
 
 /// An accepted image of at least four rows that has room in every table.
@@ -865,6 +884,7 @@ fn harmless_record(table: usize) -> Vec<u32> {
         NODES => vec![0, 0, 0, 0, 0, 0, BLANK << 30, 0, 0],
         EDGES => edge_record([0; 4], path_flags(DIRECT), [0; 3]),
         SUBGRAPHS => vec![0; 8],
+        GLYPHS => vec![0x20],
         WIDTH_RANGES => vec![CODE_POINT_LIMIT, CODE_POINT_LIMIT, 0],
         _ => vec![0; RECORD_WORDS[table]],
     }
@@ -1190,11 +1210,16 @@ fn listed_exactly(base: &Draft) -> Draft {
 
 /// With that list and the run capacity that the slow check finds right.
 #[cfg(original)]
-pub fn accepted(base: &Draft) -> Vec<u32> {
+pub fn accepted_draft(base: &Draft) -> Draft {
     let mut draft = listed_exactly(base);
     draft.head[RUN_CAPACITY_WORD] = HEADER_LIMITS[RUN_CAPACITY_WORD];
     draft.head[RUN_CAPACITY_WORD] = answer_to(&draft).runs;
-    draft.to_words()
+    draft
+}
+
+#[cfg(original)]
+pub fn accepted(base: &Draft) -> Vec<u32> {
+    accepted_draft(base).to_words()
 }
 
 /// An edge with one run more than the capacity holds.

@@ -4,9 +4,11 @@
 //!
 //! All is laid out along the flow and across it, so that both flows have every family.
 
+use crate::codes::{Meant, Target};
 use crate::dice::Dice;
 use crate::draft::{edge_record, Draft};
-use crate::generate::accepted;
+use crate::generate::accepted_draft;
+use crate::generate::controls::sometimes_put_controls;
 use crate::layout::{
     BLANK, BOXED, CORNER, DUMMY, EDGES, END_MARKER_BIT, HEADER_FLAGS_WORD, HEADER_LIMITS,
     INSIDE_BOTTOM_BIT, LABEL_PRESENT_BIT, MULTI_SEGMENT, NODES, ORTHOGONAL, PLACED_LABELS,
@@ -25,7 +27,7 @@ pub const FAMILIES: [&str; 6] = [
 ];
 
 /// Labels as they stand on drawings, with wide characters and accents.
-const LABELS: [&str; 12] = [
+const LABELS: [&str; 13] = [
     "",
     "A",
     "Ring",
@@ -36,6 +38,7 @@ const LABELS: [&str; 12] = [
     "e\u{301}tage",
     "\u{AC00}x\u{AC00}y",
     "Azimuth gearbox",
+    "~5\u{A0}mm",
     "\u{301}",
     "1:\u{6F22}\u{301}",
 ];
@@ -51,8 +54,16 @@ const RANGES: [[u32; 3]; 4] = [
 /// Mostly none, so that a colour stands beside none and beside others.
 const COLOURS: [u32; 6] = [0, 0, 1, 7, 0x00FF_8000, u32::MAX];
 
-/// An accepted image, and the number of its family; the same for the same seed.
-pub fn structured_image(seed: u64) -> (usize, Vec<u32>) {
+/// The number of its family, the image, and what it must get: it is accepted, but for
+/// those that have control characters put in.
+pub struct Structured {
+    pub family: usize,
+    pub words: Vec<u32>,
+    pub meant: Meant,
+}
+
+/// The same for the same seed.
+pub fn structured_image(seed: u64) -> Structured {
     let mut dice = Dice::new(seed ^ 0x57A6_C700);
     let family = dice.index(FAMILIES.len());
     let mut plan = Plan::on_a_flow(dice);
@@ -64,7 +75,12 @@ pub fn structured_image(seed: u64) -> (usize, Vec<u32>) {
         4 => plan.lattice(),
         _ => plan.nested_groups(),
     }
-    (family, plan.finish())
+    let (meant, words) = plan.finish();
+    Structured {
+        family,
+        words,
+        meant,
+    }
 }
 
 /// A place along the flow and across it.
@@ -482,9 +498,20 @@ impl Plan {
         self.group(from, to);
     }
 
+    /// Listed exactly, with the run capacity that it needs.
+    fn finish(mut self) -> Target {
+        self.set_sheet();
+        let mut draft = accepted_draft(&self.draft);
+        let meant = match sometimes_put_controls(&mut self.dice, &mut draft) {
+            Some(place) => Meant::at(13, place),
+            None => Meant::at(0, 0),
+        };
+        (meant, draft.to_words())
+    }
+
     /// The sheet around all of it, with a margin, or now and then cut short, so that
-    /// things leave it; listed exactly, with the run capacity that it needs.
-    fn finish(mut self) -> Vec<u32> {
+    /// things leave it.
+    fn set_sheet(&mut self) {
         let [mut width, mut height] = [0, 0];
         for table in [NODES, SUBGRAPHS] {
             for record in &self.draft.tables[table] {
@@ -503,6 +530,5 @@ impl Plan {
         }
         self.draft.head[0] = width.min(HEADER_LIMITS[0]);
         self.draft.head[1] = height;
-        accepted(&self.draft)
     }
 }

@@ -2,6 +2,7 @@
 
 use super::{BLOCK, MOST_LENT};
 use crate::band_requests::Asking;
+use crate::codes::{Meant, Target};
 use crate::generate::{code_targets, damage, random_image};
 use crate::structured::{structured_image, FAMILIES};
 
@@ -27,8 +28,8 @@ pub struct Specimen {
     pub kind: Kind,
     pub made: String,
     pub words: Vec<u32>,
-    /// The code that it must get, where its maker knows.
-    pub meant: Option<u32>,
+    /// What it must get, where its maker knows.
+    pub meant: Option<Meant>,
 }
 
 impl Specimen {
@@ -52,7 +53,7 @@ pub struct Block {
     number: u64,
     /// Images made for a code; a block takes some of them, evenly, and the next block
     /// those beside them.
-    targets: Vec<(u32, Vec<u32>)>,
+    targets: Vec<Target>,
 }
 
 impl Block {
@@ -76,12 +77,12 @@ impl Block {
             nth @ 8..=11 => damaged(nth, number, seed),
             nth @ 12..=13 => self.target(number, nth - 12),
             _ => {
-                let (family, words) = structured_image(seed);
+                let image = structured_image(seed);
                 Specimen {
                     kind: Kind::Structured,
-                    made: FAMILIES[family].to_string(),
-                    words,
-                    meant: Some(0),
+                    made: FAMILIES[image.family].to_string(),
+                    words: image.words,
+                    meant: Some(image.meant),
                 }
             }
         }
@@ -91,12 +92,13 @@ impl Block {
         let taken = BLOCK / OF_TWENTY * TARGETS_OF_TWENTY;
         let nth = number % BLOCK / OF_TWENTY * TARGETS_OF_TWENTY + nth;
         let length = self.targets.len() as u64;
-        let (code, words) = &self.targets[((nth * length / taken + self.number) % length) as usize];
+        let (meant, words) =
+            &self.targets[((nth * length / taken + self.number) % length) as usize];
         Specimen {
             kind: Kind::ForACode,
-            made: format!("for code {code}"),
+            made: format!("for code {}", meant.code),
             words: words.clone(),
-            meant: Some(*code),
+            meant: Some(*meant),
         }
     }
 }
@@ -105,7 +107,7 @@ impl Block {
 fn damaged(nth: u64, number: u64, seed: u64) -> Specimen {
     let times = [1, 1, 2, 3][(nth - 8) as usize];
     let mut words = match number / OF_TWENTY % 4 {
-        0 => structured_image(seed).1,
+        0 => structured_image(seed).words,
         _ => random_image(seed),
     };
     damage(&mut words, times, seed);
