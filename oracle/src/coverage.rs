@@ -38,12 +38,27 @@ const WIDTHS: [&str; 3] = [
     "glyph of width 1 in a label",
     "glyph of width 2 in a label",
 ];
+/// Just outside of what code 13 refuses.
+const NEIGHBOURS: [&str; 3] = [
+    "glyph 0020 in a label",
+    "glyph 007E in a label",
+    "glyph 00A0 in a label",
+];
 const PICTURE: [&str; 2] = ["wide character in the picture", "runs"];
 
 /// All of them, in the order in which they are told.
 fn features() -> impl Iterator<Item = &'static str> {
-    let groups: [&[&str]; 10] = [
-        &WEIGHTS, &MARKERS, &POLICIES, &DUMMIES, &NODES, &BORDERS, &POSITIONS, &PLACED, &WIDTHS,
+    let groups: [&[&str]; 11] = [
+        &WEIGHTS,
+        &MARKERS,
+        &POLICIES,
+        &DUMMIES,
+        &NODES,
+        &BORDERS,
+        &POSITIONS,
+        &PLACED,
+        &WIDTHS,
+        &NEIGHBOURS,
         &PICTURE,
     ];
     let rest = groups.into_iter().flatten().copied();
@@ -177,6 +192,8 @@ fn see_labels(image: &Image, seen: &mut Vec<&'static str>) {
     for Span { start, count } in of_nodes.chain(of_subgraphs).chain(of_edges) {
         for glyph in &image.glyphs[start..][..count] {
             seen.push(WIDTHS[width_of(image, *glyph)]);
+            let is_neighbour = [' ', '~', '\u{A0}'].map(|neighbour| neighbour == *glyph);
+            seen.extend(only(NEIGHBOURS, is_neighbour));
         }
     }
 }

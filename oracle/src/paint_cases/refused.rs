@@ -1,40 +1,59 @@
-//! Each refusal from 1 to 12, alone and beside others; no word that is lent changes.
+//! Each refusal from 1 to 13, alone and beside others; no word that is lent changes.
 
 use super::bands::medley;
-use super::{band, subject_of, Cases};
+use super::{band, subject_of, whole, Cases};
+use crate::generate::accepted_draft;
+use crate::layout::GLYPHS;
 use crate::limits::broken_for;
-use crate::requests::{Request, Subject, CELLS, COLOURS, SCRATCH, STAMPS};
+use crate::requests::{Request, Subject, BUFFER_NAMES, CELLS, COLOURS, SCRATCH, STAMPS};
 use std::rc::Rc;
 
 pub fn add(cases: &mut Cases) {
-    of_the_check(cases);
+    of_document_01(cases);
     beyond_the_sheet(cases);
     one_buffer_short(cases);
     several_short(cases);
+    of_control_characters(cases);
+    pasted_names(cases);
+    pasted_and_beyond(cases);
+    pasted_and_short(cases);
 }
 
-/// Codes 1 to 10, also where the band leaves every sheet and nothing is lent: they
-/// win over 11 and 12.
-fn of_the_check(cases: &mut Cases) {
+fn of_document_01(cases: &mut Cases) {
     for code in 1..=10 {
-        let (words, place) = broken_for(&[code]);
-        let subject = Rc::new(Subject::checked(words));
-        for (name, rows, lent) in [
-            ("enough lent", 1, [40; 4]),
-            ("nothing lent", 1, [0; 4]),
-            ("a band beyond", u64::MAX, [1, 2, 3, 4]),
-        ] {
-            for (kind, coloured) in [("plain", false), ("coloured", true)] {
-                let request = Request {
-                    subject: Rc::clone(&subject),
-                    coloured,
-                    first: rows / 2,
-                    rows,
-                    lent,
-                };
-                let name = format!("refused for code {code}, {name}, {kind}");
-                cases.ask(name, request, (code, place));
-            }
+        of_the_check(cases, &format!("code {code}"), &[code]);
+    }
+}
+
+/// "after the width ranges and before the corners"
+fn of_control_characters(cases: &mut Cases) {
+    of_the_check(cases, "code 13", &[13]);
+    of_the_check(cases, "code 4 beside 13", &[4, 13]);
+    of_the_check(cases, "code 5 beside 13", &[5, 13]);
+    of_the_check(cases, "code 13 beside 6", &[13, 6]);
+    of_the_check(cases, "code 13 beside 6 to 10", &[13, 6, 7, 8, 9, 10]);
+}
+
+/// An image that is broken for these codes gets the first of them, also where the band
+/// leaves every sheet and nothing is lent: it wins over 11 and 12.
+fn of_the_check(cases: &mut Cases, what: &str, codes: &[u32]) {
+    let (words, place) = broken_for(codes);
+    let subject = Rc::new(Subject::checked(words));
+    for (name, rows, lent) in [
+        ("enough lent", 1, [40; 4]),
+        ("nothing lent", 1, [0; 4]),
+        ("a band beyond", u64::MAX, [1, 2, 3, 4]),
+    ] {
+        for (kind, coloured) in [("plain", false), ("coloured", true)] {
+            let request = Request {
+                subject: Rc::clone(&subject),
+                coloured,
+                first: rows / 2,
+                rows,
+                lent,
+            };
+            let name = format!("refused for {what}, {name}, {kind}");
+            cases.ask(name, request, (codes[0], place));
         }
     }
 }
@@ -135,6 +154,65 @@ fn several_short(cases: &mut Cases) {
                 *lent -= short_by;
             }
             cases.ask(format!("short: {name}, {kind}"), request, (12, stated));
+        }
+    }
+}
+
+// ---- Control characters ----------------------------------------------------
+
+/// The number of the glyph that is the whole name of the medley's box.
+const NAME: u32 = 5;
+
+/// The medley with another glyph for that name, and the glyph's place.
+fn pasted(glyph: u32) -> (Rc<Subject>, u32) {
+    let mut draft = accepted_draft(&medley());
+    draft.tables[GLYPHS][NAME as usize] = vec![glyph];
+    let subject = Subject::painted(draft.to_words());
+    (Rc::new(subject), draft.place(GLYPHS, NAME, 0))
+}
+
+/// Those just outside of the two ranges are painted.
+fn pasted_names(cases: &mut Cases) {
+    for glyph in [
+        0x00, 0x01, 0x1B, 0x1F, 0x20, 0x7E, 0x7F, 0x80, 0x9F, 0xA0, 0xA1,
+    ] {
+        let (subject, place) = pasted(glyph);
+        let stated = match glyph {
+            0x20 | 0x7E | 0xA0 | 0xA1 => (0, 0),
+            _ => (13, place),
+        };
+        for (kind, coloured) in [("plain", false), ("coloured", true)] {
+            let request = whole(Rc::clone(&subject), coloured);
+            cases.ask(format!("a box named {glyph:04X}, {kind}"), request, stated);
+        }
+    }
+}
+
+/// 13 wins over 11; and for no rows at all the glyphs are looked at too.
+fn pasted_and_beyond(cases: &mut Cases) {
+    let (subject, place) = pasted(0x1B);
+    for (first, rows) in [(0, 10), (9, 1), (u64::MAX, 1), (0, 0), (9, 0)] {
+        for (kind, coloured) in [("plain", false), ("coloured", true)] {
+            let request = Request {
+                first,
+                rows,
+                ..whole(Rc::clone(&subject), coloured)
+            };
+            let name = format!("a box named 001B, {rows} rows from {first} of nine, {kind}");
+            cases.ask(name, request, (13, place));
+        }
+    }
+}
+
+/// 13 wins over 12, whichever buffer is short.
+fn pasted_and_short(cases: &mut Cases) {
+    let (subject, place) = pasted(0x1B);
+    for (buffer, name) in BUFFER_NAMES.into_iter().enumerate() {
+        for (kind, coloured) in [("plain", false), ("coloured", true)] {
+            let mut request = band(Rc::clone(&subject), coloured, (3, 2));
+            request.lent[buffer] -= 2;
+            let name = format!("a box named 001B, {name} short by 1, {kind}");
+            cases.ask(name, request, (13, place));
         }
     }
 }
