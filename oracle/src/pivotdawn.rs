@@ -7,6 +7,10 @@
 //! all of which numbers stand in the image's header. Too little is refused with code
 //! 12; a refusal changes no lent word but the answer.
 //!
+//! A code is that of the first rule that is broken. The rules of the image are tried in
+//! the order 1 to 5, 13 (a glyph is a control character), 6 to 10; those of painting, 11
+//! (rows off the sheet) and 12, after them. `include/pivotdawn.h` words each.
+//!
 //! Each unsafe block below is sound for the same reasons:
 //!
 //! - A slice crosses as its own pointer and length. So it is aligned, every word of it
