@@ -1,0 +1,2 @@
+-- Whose label a glyph belongs to.
+pub mod Owner
