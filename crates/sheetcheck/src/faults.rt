@@ -1,8 +1,9 @@
-// Codes 5 to 9: what is wrong with a record whose words each keep their rule.
+// Codes 5 to 9 and 13: what is wrong with a record whose words each keep their rule.
 use crate::say;
 use crate::say::form;
 use finding::OrderFaults;
 use finding::RangeFaults;
+use glyph_owner::GlyphOwner;
 use ground::Found;
 use ground::number;
 use image::FlowAxis;
@@ -49,6 +50,29 @@ pub fn range(faults: RangeFaults, k: usize) {
     }
     let fixed = faults.fixed;
     say_fixed(fixed);
+}
+
+// A glyph that is a control character, and the first label that uses it.
+pub fn control(value: u32, owner: GlyphOwner) {
+    form(b": holds @, a control character", number(value), 0, 0, 0);
+    let GlyphOwner::Label {
+        kind,
+        index,
+        position,
+    } = owner
+    else {
+        say::text(
+            b"; no label uses it; take it out of the table, or put a printable character in its place",
+        );
+        return;
+    };
+    form(
+        b"; it is glyph % of the label of ~ %; take it out of the label, or put a printable character in its place",
+        position,
+        number(image::element_kind_number(kind)),
+        index,
+        0,
+    );
 }
 
 // 0 on Y flow, where a corner has a row, and 1 on X flow, where it has a column.

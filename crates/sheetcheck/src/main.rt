@@ -57,6 +57,14 @@ fn explain_runs(image: &[u32]) {
     }
 }
 
+// Glyph k, which is a control character.
+fn explain_control(image: &[u32], k: usize)
+    requires { ⌜ k < 4294967296 ⌝ }
+{
+    let value = finding::field_of(image, RecordKind::Glyph, k, layout::GLYPH_VALUE);
+    faults::control(value, glyph_owner::owner_of(image, k));
+}
+
 // Element k, which lists a thing that is listed already.
 fn explain_twice(image: &[u32], k: usize)
     requires { ⌜ k < 4294967296 ⌝ }
@@ -117,6 +125,7 @@ fn explain_record(image: &[u32], code: u32, kind: RecordKind, k: usize, field: u
     match code {
         refusals::BAD_FIELD => words::explain(image, kind, k, field),
         refusals::BAD_RANGE => faults::range(finding::range_faults(image, k), k),
+        refusals::CONTROL_CHARACTER => explain_control(image, k),
         refusals::CORNER_BELOW_ZERO => faults::corner(low_corner::low_corner(image, k)),
         refusals::LISTED_TWICE => explain_twice(image, k),
         refusals::OUT_OF_ORDER => explain_order(image, k),
