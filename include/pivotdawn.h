@@ -57,9 +57,9 @@ extern "C" {
 #endif
 
 /*
- * What a call answers. Rules are tried in this order, and the first that is broken is
- * answered, with its place: `place` below says what that number is. A word is given by its
- * index in the image.
+ * What a call answers. Rules are tried in the order of this list, so 13 between 5 and 6, and
+ * the first that is broken is answered, with its place: `place` below says what that number
+ * is. A word is given by its index in the image.
  */
 enum pivotdawn_code {
     /* checked: the image keeps every rule; painted: the band is in the cells. place 0 */
@@ -75,6 +75,8 @@ enum pivotdawn_code {
     /* a width range is upside down, out of order, or holds a space, a quote or a bracket.
        place: the range's first word */
     PIVOTDAWN_BAD_RANGE = 5,
+    /* a glyph is a control character, in a label or not. place: that glyph's word */
+    PIVOTDAWN_CONTROL_CHARACTER = 13,
     /* an edge of several segments bends above row 0 or left of column 0. place: the edge's
        first word */
     PIVOTDAWN_CORNER_OUTSIDE = 6,
@@ -138,7 +140,7 @@ enum pivotdawn_header {
  *   placed label   4   whose it is (the number of an edge), x, y, flags
  *   element        4   what (0 a node, 1 an edge, 2 a subgraph), its number, first row, last row
  *   point          2   x, y
- *   glyph          1   a code point
+ *   glyph          1   a code point, but none of a control character (0000 to 001F, 007F to 009F)
  *   width range    3   first code point, last code point, their width (0 or 2; else it is 1)
  */
 
@@ -220,7 +222,7 @@ enum pivotdawn_direction {
  */
 
 /*
- * Is this an image? Codes 0 to 10.
+ * Is this an image? Codes 0 to 10, and 13.
  *
  * answer[PIVOTDAWN_PLACE]: the place; 0 where accepted.
  * answer[PIVOTDAWN_RUNS]: the number of runs, which is what the run capacity has to hold; 0
@@ -229,7 +231,7 @@ enum pivotdawn_direction {
 uint32_t pivotdawn_check(const uint32_t *image, size_t words, uint64_t *answer, size_t answer_words);
 
 /*
- * Paints the rows first, first + 1 .. first + rows - 1. Codes 0 to 12: the image is checked
+ * Paints the rows first, first + 1 .. first + rows - 1. Codes 0 to 13: the image is checked
  * anew by each call. Any numbers may be asked for; 0 rows of a sheet paint nothing, yet want
  * the scratch.
  *

@@ -45,6 +45,7 @@ static const char *const reasons[] = {
     [PIVOTDAWN_WRONG_LENGTH] = "it is not as long as its header says",
     [PIVOTDAWN_BAD_FIELD] = "a field holds what it may not hold, or points out of its table",
     [PIVOTDAWN_BAD_RANGE] = "a width range is upside down, out of order, or holds a space, quote or bracket",
+    [PIVOTDAWN_CONTROL_CHARACTER] = "a glyph is a control character",
     [PIVOTDAWN_CORNER_OUTSIDE] = "an edge has a corner above row 0 or left of column 0",
     [PIVOTDAWN_LISTED_TWICE] = "an element lists what is listed already",
     [PIVOTDAWN_LIST_DISORDER] = "an element's rows are upside down, or it starts above the one before it",
@@ -196,15 +197,12 @@ static int paint_band(const struct sheet *sheet, size_t first, size_t rows)
 
 /* ---- a cell as text ---- */
 
-/* A character in UTF-8. One that would steer the terminal is replaced. */
+/* A character in UTF-8. None steers the terminal: an image with a control character is refused. */
 static void put_character(uint32_t point)
 {
     static const uint32_t leads[] = {0, 0xC0, 0xE0, 0xF0};
-    int tail;
+    int tail = point < 0x80 ? 0 : point < 0x800 ? 1 : point < 0x10000 ? 2 : 3;
 
-    if (point < 0x20 || (point >= 0x7F && point < 0xA0))
-        point = 0xFFFD;
-    tail = point < 0x80 ? 0 : point < 0x800 ? 1 : point < 0x10000 ? 2 : 3;
     putchar((int)(leads[tail] | point >> 6 * tail));
     while (tail-- > 0)
         putchar((int)(0x80 | (point >> 6 * tail & 0x3F)));
