@@ -179,8 +179,8 @@ enum pivotdawn_tag {
     PIVOTDAWN_MARKER = 3
 };
 
-/* text: a character by its code point; or PIVOTDAWN_CONTINUATION, the second column of the
-   character to its left, which is two columns wide */
+/* text: a character by its code point, never a control character; or PIVOTDAWN_CONTINUATION,
+   the second column of the character to its left, which is two columns wide */
 #define PIVOTDAWN_CODE_POINT(cell) ((uint32_t)(cell) & 0x1FFFFFu)
 #define PIVOTDAWN_CONTINUATION 0x40200000u
 
