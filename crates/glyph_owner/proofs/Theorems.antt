@@ -1,12 +1,12 @@
 -- Where an owner is told, its label holds the glyph at that position, and no label before it holds it; where none is told, no label does.
 use native.Mathlib.Omega.{arith}
-use Prim.Native.Nat.{ℕ, _+_, _-_, _≤_, _<_}
+use Prim.Native.Nat.{ℕ, _+_, _-_, _<_}
 use mathlib.Core.Bool.{Bool, true, false}
 use mathlib.Core.List.{List}
-use mathlib.Core.Path.{_≡_, refl, sym, _∙_}
-use lib.Dec.{leb, ltb}
+use mathlib.Core.Path.{_≡_, refl}
+use lib.Dec.{leb}
 use borrow.Author.Tests.{leb-true, ltb-true, le-leb, lt-ltb}
-use Rattle.ground.specs.First.{foundIf, firstFrom}
+use Rattle.ground.specs.First.{foundIf}
 use Rattle.ground.specs.declared.Found.{Found}
 use Rattle.ground.specs.declared.Found.the-variants as found
 use Rattle.ground.proofs.Each.{and-left, and-right, and-both, by-bool}
