@@ -7,9 +7,11 @@ use mathlib.Core.List.{List, [], _∷_, _++_}
 use mathlib.Core.Path.{_≡_, refl, sym, ap, _∙_}
 use lib.ListN.{length, take, drop}
 use lib.Seq.{take-at, drop-at}
-use borrow.Author.Tests.{le-leb, lt-leb}
+use lib.Dec.{eqb}
+use borrow.Author.Tests.{le-leb, lt-leb, eqb-true, eqb-false}
 use Rattle.ground.specs.Each.{every}
 use Rattle.ground.specs.Judged.{Judged, firstBad}
+use Rattle.ground.proofs.Each.{by-bool}
 use Rattle.ground.proofs.Judged.{all-good, bad-first}
 use Rattle.refusals.specs.declared.Verdict.{Verdict}
 use Rattle.refusals.specs.declared.Verdict.the-variants.{Passed, Refused}
@@ -72,6 +74,14 @@ module _ (image : List ℕ) (top rows : ℕ) (lent : List Judged) where
     short = λ z h place b. band-verdict z ∙ room-verdict h ∙ rw (bad-first lent place b);
     passed = λ z h all. band-verdict z ∙ room-verdict h ∙ rw (all-good lent all);
   }
+
+-- What painting passes, check accepts.
+pub passed-accepted :
+    (image : List ℕ) (first rows : ℕ) (lent : List Judged) (v : Verdict) → AsChecked image first rows lent v → v ≡ Passed → checked image .code ≡ 0
+passed-accepted image first rows lent v a passed =
+    by-bool (eqb (checked image .code) 0)
+    (λ e. eqb-true _ _ e)
+    (λ e. let r = a .refused (eqb-false (checked image .code) 0 e) in let z : _≡_ {A = ℕ} 0 1 = cc in absurd (omega arith))
 
 -- Enough room is no short buffer.
 

@@ -1,9 +1,13 @@
 -- Each character of a picture is one of the image's own, or one that painting itself writes; so none is a control character.
 use native.Mathlib.Omega.{arith}
-use Prim.Native.Nat.{ℕ, _<_}
-use mathlib.Core.List.{List}
+use Prim.Native.Nat.{ℕ, zero, suc, _+_, _-_, _<_}
+use mathlib.Core.List.{List, _++_}
 use mathlib.Core.Logic.{_⊎_, ⊎-elim}
 use mathlib.Core.Path.{_≡_, refl, sym, _∙_}
+use lib.ListN.{length, drop, getD, length-append, List·getD-append}
+use lib.Seq.{getD-append-add}
+use Rattle.ground.specs.Each.{numbers, each}
+use Rattle.ground.proofs.Order.{by-order}
 use Rattle.cell.specs.declared.Parts.{Parts}
 use Rattle.cell.specs.declared.Parts.the-variants.{Empty, Text, Continuation}
 use Rattle.cell.specs.OneCell.{pack, read, Valid, Packed}
@@ -17,9 +21,13 @@ use Rattle.layout.specs.Layout.{glyphValue}
 use Rattle.layout.specs.Tables.{field, tablesOf}
 use Rattle.things.specs.Things.{rangesOf}
 use Rattle.controls.specs.Controls.{Control}
+use Rattle.refusals.specs.declared.Verdict.{Verdict}
+use Rattle.refusals.specs.declared.Verdict.the-variants.{Passed}
 use Rattle.refusals.specs.Accepted.{Keeps}
-use Rattle.picture.specs.Picture.{width, pictureRow}
+use Rattle.picture.specs.Picture.{width, pictureRow, pictureCells}
+use Rattle.picture.specs.Painted.{room, afterwards}
 use Rattle.picture.specs.Characters.{partsAt, Character, written, glyph}
+use Rattle.picture.proofs.Laws.{cells-length}
 use Rattle.picture.proofs.Cells.{glyph-size, code-point, fixed-code-point, empty-row, row-has}
 
 -- Of any property of characters: a cell is a packing, and its character, where it is a text, has the property.
@@ -56,6 +64,19 @@ module _ (Q : ℕ → Type 0) where
     glyphs = λ ch has. pack-lettered (Text ch) (has .0) (λ other e. let same : ch ≡ other = cc in rw (← same) (has .1));
   }
 
+-- What every cell of every row has, every cell of rows side by side has.
+side-by-side : (C : ℕ → Type 0) (f : ℕ → List ℕ) → ((y : ℕ) → AllCells C (f y)) → (first rows : ℕ) → AllCells C (each (numbers first rows) f)
+unfolding numbers each
+side-by-side C f all first zero k h = absurd (omega arith)
+side-by-side C f all first (suc rows) k h =
+    let rest = each (numbers (suc first) rows) f in
+    by-order k (length (f first))
+    (λ inside. rw (List·getD-append (f first) rest 0 k inside) (all first k inside))
+    (λ past.
+    let e : length (f first) + (k - length (f first)) ≡ k = omega arith in
+    let left : k - length (f first) < length rest = omega (arith, length-append (f first) rest) in
+    rw (← e, getD-append-add (f first) rest (k - length (f first)) 0) (side-by-side C f all (suc first) rows (k - length (f first)) left))
+
 -- Of an image that keeps every rule.
 module _ (image : List ℕ) (keeps : Keeps image) where
   fixed-letter : (ch : ℕ) → Fixed ch → Letter (Character image) ch
@@ -77,6 +98,18 @@ module _ (image : List ℕ) (keeps : Keeps image) where
   pub row-characters : (y x ch : ℕ) → partsAt (pictureRow image y .cells) x ≡ Text ch → Character image ch
   row-characters y x ch e =
       at-holds (letters-kept (Character image) (fixed-letter space fixed.space)) x (pictureRow image y .cells) (row-lettered y) .letter ch e
+
+  -- The same of the needed words that painting leaves.
+  pub band-characters :
+      (first rows : ℕ) (v : Verdict) (lent : List ℕ) → v ≡ Passed → (n ch : ℕ) → n < room image rows →
+      partsAt (afterwards v (pictureCells image first rows) lent) n ≡ Text ch → Character image ch
+  unfolding afterwards pictureCells
+  band-characters first rows v lent passed n ch h e =
+      let needed = pictureCells image first rows in
+      let inside : n < length needed = rw (cells-length image first rows) h in
+      let same : getD (needed ++ drop (length needed) lent) n 0 ≡ getD needed n 0 = List·getD-append needed _ 0 n inside in
+      side-by-side (Lettered (Character image)) (λ y. pictureRow image y .cells) row-lettered first rows n inside .letter ch
+      (rw (passed, same) at e)
 
   fixed-printable : (ch : ℕ) → Fixed ch → Control ch → ⊥
   fixed-printable ch fixed.space c = ⊎-elim (λ low. omega arith) (λ high. omega arith) c

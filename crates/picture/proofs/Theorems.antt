@@ -1,5 +1,5 @@
 -- What holds of the picture, and of every band that is painted.
-use Prim.Native.Nat.{ℕ, _+_, _≤_}
+use Prim.Native.Nat.{ℕ, _+_, _≤_, _<_}
 use mathlib.Core.List.{List, []}
 use mathlib.Core.Path.{_≡_, refl, sym, _∙_}
 use lib.ListN.{length, length-replicate}
@@ -22,10 +22,10 @@ use Rattle.picture.proofs.Statements.{IsRows, plainWindow, rowsOf, band
 use Rattle.picture.proofs.Table.{table, example}
 use Rattle.picture.proofs.Laws.{window-rows, plain-rows, cells-length, colours-length}
 use Rattle.picture.proofs.Cells.{glyph-size, code-point, row-of-packings}
-use Rattle.picture.proofs.Characters.{row-characters, printable}
+use Rattle.picture.proofs.Characters.{row-characters, band-characters, printable}
 use Rattle.picture.proofs.ListFree.{one-picture}
 use Rattle.picture.proofs.Bands.{cells-bands, colours-bands}
-use Rattle.picture.proofs.Answers.{kept-on-refusal, holds-needed, same-needed, as-checked, plain-room, coloured-room, cells-of-whole, colours-of-whole}
+use Rattle.picture.proofs.Answers.{kept-on-refusal, holds-needed, same-needed, as-checked, passed-accepted, plain-room, coloured-room, cells-of-whole, colours-of-whole}
 
 -- The cases P1 to P10 of the proof table hold.
 pub proof-table : ProofTable
@@ -147,6 +147,16 @@ whichever-before image first rows cells cells′ scratch scratch′ e e′ =
       scratch = same-needed _ _ _ scratch scratch′ _ (length-replicate (scratchRoom image) 0) same;
     }
 
+-- Where paint passes, no needed cell that it leaves holds a control character.
+pub band-no-control :
+    (image : List ℕ) (first rows : ℕ) (cells scratch : List ℕ) →
+    painted image first rows cells scratch .verdict ≡ Passed →
+    (n ch : ℕ) → n < room image rows → partsAt (painted image first rows cells scratch .cells) n ≡ Text ch → Control ch → ⊥
+unfolding painted
+band-no-control image first rows cells scratch passed n ch h e =
+    let keeps = accepted-iff image .0 (passed-accepted image first rows _ _ (paint-refuses-as-check image first rows cells scratch) passed) in
+    printable image keeps ch (band-characters image keeps first rows _ cells passed n ch h e)
+
 -- Painting with colours.
 
 -- Paint with colours refuses what check refuses, with that code and place; else a band that leaves the sheet, else the first buffer that is short; else it
@@ -221,3 +231,15 @@ whichever-before-coloured image first rows cells cells′ colours colours′ sta
       stamps = same-needed _ _ _ stamps stamps′ _ (length-replicate (room image rows) 0) same;
       scratch = same-needed _ _ _ scratch scratch′ _ (length-replicate (scratchRoom image) 0) same;
     }
+
+-- Where it passes, no needed cell that it leaves holds a control character.
+pub band-no-control-coloured :
+    (image : List ℕ) (first rows : ℕ) (cells colours stamps scratch : List ℕ) →
+    paintedColoured image first rows cells colours stamps scratch .verdict ≡ Passed →
+    (n ch : ℕ) → n < room image rows →
+    partsAt (paintedColoured image first rows cells colours stamps scratch .cells) n ≡ Text ch → Control ch → ⊥
+unfolding paintedColoured
+band-no-control-coloured image first rows cells colours stamps scratch passed n ch h e =
+    let checked-too = paint-refuses-as-check-coloured image first rows cells colours stamps scratch in
+    let keeps = accepted-iff image .0 (passed-accepted image first rows _ _ checked-too passed) in
+    printable image keeps ch (band-characters image keeps first rows _ cells passed n ch h e)
