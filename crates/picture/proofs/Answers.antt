@@ -1,15 +1,15 @@
 -- What paint answers, and what it leaves of the lent buffers.
 use native.Mathlib.Omega.{arith}
-use native.Mathlib.Nat.{zero-add}
+use native.Mathlib.Nat.{zero-add, mul-one}
 use Prim.Native.Nat.{ℕ, _+_, _-_, _*_, _≤_, _<_}
 use mathlib.Core.Bool.{true}
-use mathlib.Core.List.{List, [], _∷_, _++_}
+use mathlib.Core.List.{List, [], _∷_, _++_, append-assoc, append-nil}
 use mathlib.Core.Path.{_≡_, refl, sym, ap, _∙_}
 use lib.ListN.{length, take, drop}
 use lib.Seq.{take-at, drop-at}
 use lib.Dec.{eqb}
 use borrow.Author.Tests.{le-leb, lt-leb, eqb-true, eqb-false}
-use Rattle.ground.specs.Each.{every}
+use Rattle.ground.specs.Each.{every, numbers, each}
 use Rattle.ground.specs.Judged.{Judged, firstBad}
 use Rattle.ground.proofs.Each.{by-bool}
 use Rattle.ground.proofs.Judged.{all-good, bad-first}
@@ -19,7 +19,7 @@ use Rattle.refusals.specs.FirstBroken.{Rule, rule, firstBroken}
 use Rattle.refusals.specs.Rules.{rules, checked}
 use Rattle.refusals.proofs.FirstBroken.{andThen, broken-append, first-broken}
 use Rattle.refusals.proofs.Theorems.{accepted-passes, first}
-use Rattle.picture.specs.Picture.{width, height, pictureCells, pictureColours}
+use Rattle.picture.specs.Picture.{width, height, pictureRow, pictureCells, pictureColours}
 use Rattle.picture.specs.Painted.{room, scratchRoom, outsideSheet, tooLittleRoom, bandJudged, plainJudged, colouredJudged, bandRules, paintRules, afterwards}
 use Rattle.picture.proofs.Statements.{Holds, AsChecked}
 use Rattle.picture.proofs.Laws.{cells-length, colours-length, cells-join, colours-join}
@@ -96,24 +96,42 @@ module _ (image : List ℕ) (rows : ℕ) (cells scratch : List ℕ) (roomy : roo
   unfolding every colouredJudged
   coloured-room colours stamps wide tall = rw (le-leb _ _ roomy, le-leb _ _ wide, le-leb _ _ tall, le-leb _ _ spare)
 
--- The rows of a band are those rows of the whole picture.
+-- Rows that are cut out of a band, whatever lies past it, are those rows of the picture.
 
-module _ (whole : ℕ → ℕ → List ℕ) (w : ℕ) (long : (first rows : ℕ) → length (whole first rows) ≡ w * rows)
-    (join : (first n m : ℕ) → whole first (n + m) ≡ whole first n ++ whole (first + n) m) where
-  cut : (first rows rest : ℕ) → take (w * rows) (drop (w * first) (whole 0 (first + (rows + rest)))) ≡ whole first rows
-  cut first rows rest =
-      ap (λ (l : List ℕ). take (w * rows) (drop (w * first) l)) (join 0 first (rows + rest))
-      ∙ ap (take (w * rows)) (drop-at (whole 0 first) (whole (0 + first) (rows + rest)) (w * first) (long 0 first))
-      ∙ rw (zero-add first, join first rows rest) (take-at (whole first rows) (whole (first + rows) rest) (w * rows) (long first rows))
+module _ (band : ℕ → ℕ → List ℕ) (w : ℕ) (long : (first rows : ℕ) → length (band first rows) ≡ w * rows)
+    (join : (first n m : ℕ) → band first (n + m) ≡ band first n ++ band (first + n) m) where
+  cut :
+      (top skipped rows rest : ℕ) (past : List ℕ) →
+      take (w * rows) (drop (w * skipped) (band top (skipped + (rows + rest)) ++ past)) ≡ band (top + skipped) rows
+  cut top skipped rows rest past =
+      let first = top + skipped in
+      rw (join top skipped (rows + rest), append-assoc, drop-at (band top skipped) (band first (rows + rest) ++ past) (w * skipped) (long top skipped))
+      (rw (join first rows rest, append-assoc) (take-at (band first rows) (band (first + rows) rest ++ past) (w * rows) (long first rows)))
 
-  band-cut : (first rows height : ℕ) → first + rows ≤ height → whole first rows ≡ take (w * rows) (drop (w * first) (whole 0 height))
-  band-cut first rows height h =
-      let e : height ≡ first + (rows + (height - (first + rows))) = omega arith in
-      rw e (sym (cut first rows (height - (first + rows))))
+  band-cut :
+      (top skipped rows height : ℕ) (past : List ℕ) → skipped + rows ≤ height →
+      take (w * rows) (drop (w * skipped) (band top height ++ past)) ≡ band (top + skipped) rows
+  band-cut top skipped rows height past h =
+      let e : height ≡ skipped + (rows + (height - (skipped + rows))) = omega arith in
+      rw e (cut top skipped rows (height - (skipped + rows)) past)
+
+  -- the same of the rows from 0 on, with nothing past them
+  whole-cut : (first rows height : ℕ) → first + rows ≤ height → band first rows ≡ take (w * rows) (drop (w * first) (band 0 height))
+  whole-cut first rows height h = sym (rw (append-nil, zero-add) at (band-cut 0 first rows height [] h))
 
 module _ (image : List ℕ) (first rows : ℕ) (inside : first + rows ≤ height image) where
   pub cells-of-whole : pictureCells image first rows ≡ take (room image rows) (drop (room image first) (pictureCells image 0 (height image)))
-  cells-of-whole = band-cut (pictureCells image) (width image) (cells-length image) (cells-join image) first rows (height image) inside
+  cells-of-whole = whole-cut (pictureCells image) (width image) (cells-length image) (cells-join image) first rows (height image) inside
 
   pub colours-of-whole : pictureColours image first rows ≡ take (room image rows) (drop (room image first) (pictureColours image 0 (height image)))
-  colours-of-whole = band-cut (pictureColours image) (width image) (colours-length image) (colours-join image) first rows (height image) inside
+  colours-of-whole = whole-cut (pictureColours image) (width image) (colours-length image) (colours-join image) first rows (height image) inside
+
+-- Where painting passes, row i of what it leaves is that row of the picture.
+pub row-of-band :
+    (image : List ℕ) (first rows i : ℕ) (v : Verdict) (lent : List ℕ) → v ≡ Passed → i < rows →
+    take (width image) (drop (room image i) (afterwards v (pictureCells image first rows) lent)) ≡ pictureRow image (first + i) .cells
+unfolding afterwards pictureCells numbers each
+row-of-band image first rows i v lent e h =
+    let past = drop (length (pictureCells image first rows)) lent in
+    let row = band-cut (pictureCells image) (width image) (cells-length image) (cells-join image) first i 1 rows past (omega arith) in
+    rw e (rw (mul-one, append-nil) at row)

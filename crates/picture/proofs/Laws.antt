@@ -118,9 +118,12 @@ module _ (image : List ℕ) where
   over-empty : (y : ℕ) → SameLengths (pictureRow image y) (emptyCanvas (width image))
   over-empty y = rw (row-is-over image (tablesOf image) y) (row-lengths image (tablesOf image) y (emptyCanvas (width image)))
 
+  pub row-width : (y : ℕ) → length (pictureRow image y .cells) ≡ width image
+  row-width y = over-empty y .cells ∙ length-replicate (width image) 0
+
   pub cells-length : (first rows : ℕ) → length (pictureCells image first rows) ≡ width image * rows
   unfolding pictureCells
-  cells-length first rows = each-length _ (width image) first rows (λ y. over-empty y .cells ∙ length-replicate (width image) 0)
+  cells-length first rows = each-length _ (width image) first rows row-width
 
   pub colours-length : (first rows : ℕ) → length (pictureColours image first rows) ≡ width image * rows
   unfolding pictureColours
