@@ -1,0 +1,1 @@
+// Wide characters are always whole, request #112: definitions and theorems, no code.
