@@ -180,7 +180,11 @@ enum pivotdawn_tag {
 };
 
 /* text: a character by its code point, never a control character; or PIVOTDAWN_CONTINUATION,
-   the second column of the character to its left, which is two columns wide */
+   the second column of the character to its left, which is two columns wide by the image's
+   ranges. A row has both columns of such a character or neither, in every band: it neither
+   begins with a continuation nor ends with half a character. No character has width 0, so
+   the widths of a row's characters, and 1 for each other cell but a continuation, sum to
+   the width of the sheet */
 #define PIVOTDAWN_CODE_POINT(cell) ((uint32_t)(cell) & 0x1FFFFFu)
 #define PIVOTDAWN_CONTINUATION 0x40200000u
 

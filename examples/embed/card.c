@@ -253,6 +253,7 @@ static void put_cell(uint32_t cell)
 {
     switch (PIVOTDAWN_TAG(cell)) {
     case PIVOTDAWN_TEXT:
+        /* the character to its left fills this column too: a continuation never stands alone */
         if (cell != PIVOTDAWN_CONTINUATION)
             put_character(PIVOTDAWN_CODE_POINT(cell));
         break;
