@@ -27,85 +27,125 @@ use Rattle.whole.proofs.Columns.{columns-before, columns-all}
 abbrev pub CodePoints : List ℕ → Type 0
 CodePoints image = (k : ℕ) → k < tablesOf image .glyphs .count → CodePoint (field image (tablesOf image .glyphs) k glyphValue)
 
--- Of any image, accepted or not, whose glyphs are code points and whose ranges give the space width 1.
-module _ (image : List ℕ) (good : CodePoints image) (narrow : widthOf (rangesIn image) space ≡ 1) (y : ℕ) where
-  -- what all ink keeps, and an empty row has, row y of the picture has
-  row-of-ink :
-      (P : List ℕ → Type 0) → KeptByInk (rangesIn image) CodePoint P → P (replicate (width image) 0) → P (pictureRow image y .cells)
-  row-of-ink P keeps empty = row-has CodePoint fixed-code-point image (tablesOf image) (glyph-size image) good P keeps empty y
+-- Any image, accepted or not, whose glyphs are code points and whose ranges give the space width 1.
 
-  -- Its wide characters are whole in every row of its picture,
-  pub wide-whole-of : Whole (rangesIn image) (pictureRow image y .cells)
-  wide-whole-of =
-      whole-of (rangesIn image) (pictureRow image y .cells)
-      (row-of-ink (Sound (rangesIn image)) (sound-kept (rangesIn image) narrow) (empty-sound (rangesIn image) (width image)) .paired)
+-- what all ink keeps, and an empty row has, each row of its picture has
+row-of-ink :
+    (image : List ℕ) → CodePoints image → (P : List ℕ → Type 0) →
+    KeptByInk (rangesIn image) CodePoint P → P (replicate (width image) 0) → (y : ℕ) → P (pictureRow image y .cells)
+row-of-ink image good P keeps empty y = row-has CodePoint fixed-code-point image (tablesOf image) (glyph-size image) good P keeps empty y
 
-  -- and every character in it has width 1 or 2.
-  pub wide-shown-of : Shown (rangesIn image) (pictureRow image y .cells)
-  wide-shown-of =
-      shown-of (rangesIn image) narrow (pictureRow image y .cells)
-      (row-of-ink (AllTake (rangesIn image)) (takes-kept (rangesIn image) narrow) (empty-takes (rangesIn image) narrow (width image)))
+-- Its wide characters are whole in every row of its picture.
+pub wide-whole-of :
+    (image : List ℕ) → CodePoints image → widthOf (rangesIn image) space ≡ 1 →
+    (y : ℕ) → Whole (rangesIn image) (pictureRow image y .cells)
+wide-whole-of image good narrow y =
+    let ranges = rangesIn image in
+    whole-of ranges (pictureRow image y .cells)
+    (row-of-ink image good (Sound ranges) (sound-kept ranges narrow) (empty-sound ranges (width image)) y .paired)
+
+-- Every character in such a row has width 1 or 2.
+pub wide-shown-of :
+    (image : List ℕ) → CodePoints image → widthOf (rangesIn image) space ≡ 1 →
+    (y : ℕ) → Shown (rangesIn image) (pictureRow image y .cells)
+wide-shown-of image good narrow y =
+    let ranges = rangesIn image in
+    shown-of ranges narrow (pictureRow image y .cells)
+    (row-of-ink image good (AllTake ranges) (takes-kept ranges narrow) (empty-takes ranges narrow (width image)) y)
 
 -- An accepted image is such an image.
-module _ (image : List ℕ) (accepted : checked image .code ≡ 0) where
-  code-points : CodePoints image
-  code-points k h = code-point _ (accepted-iff image .0 accepted .tables .fields .glyphs k h .value)
 
-  narrow : widthOf (rangesIn image) space ≡ 1
-  narrow = accepted-widths image accepted .fixed space fixed.space
+code-points : (image : List ℕ) → checked image .code ≡ 0 → CodePoints image
+code-points image accepted k h = code-point _ (accepted-iff image .0 accepted .tables .fields .glyphs k h .value)
 
-  module _ (y : ℕ) where
-    -- Every wide lead of a row of its picture is followed by a continuation, every continuation stands just after a wide lead, and no wide lead is in the
-    -- last column.
-    pub wide-whole : Whole (rangesIn image) (pictureRow image y .cells)
-    wide-whole = wide-whole-of image code-points narrow y
+narrow-space : (image : List ℕ) → checked image .code ≡ 0 → widthOf (rangesIn image) space ≡ 1
+narrow-space image accepted = accepted-widths image accepted .fixed space fixed.space
 
-    -- Every character in it has width 1 or 2.
-    pub wide-shown : Shown (rangesIn image) (pictureRow image y .cells)
-    wide-shown = wide-shown-of image code-points narrow y
+-- In each row of an accepted image's picture every wide lead is followed by a continuation, every continuation stands just after a wide lead, and no wide
+-- lead is in the last column.
+pub wide-whole :
+    (image : List ℕ) → checked image .code ≡ 0 →
+    (y : ℕ) → Whole (rangesIn image) (pictureRow image y .cells)
+wide-whole image accepted y = wide-whole-of image (code-points image accepted) (narrow-space image accepted) y
 
-    -- So the columns of what is written for its cells sum to the sheet's width,
-    pub columns-sum : columnsOfCells (rangesIn image) (pictureRow image y .cells) ≡ width image
-    columns-sum = columns-all (rangesIn image) narrow (pictureRow image y .cells) wide-whole wide-shown ∙ row-width image y
+-- Every character in such a row has width 1 or 2.
+pub wide-shown :
+    (image : List ℕ) → checked image .code ≡ 0 →
+    (y : ℕ) → Shown (rangesIn image) (pictureRow image y .cells)
+wide-shown image accepted y = wide-shown-of image (code-points image accepted) (narrow-space image accepted) y
 
-    -- and what is written for a cell begins in that cell's column: all that stands before it takes as many columns, one more before a continuation.
-    pub columns-until :
-        (x : ℕ) → x ≤ width image →
-        columnsOfCells (rangesIn image) (take x (pictureRow image y .cells)) ≡ x + cond (isContinuation (getD (pictureRow image y .cells) x 0)) 1 0
-    columns-until x h =
-        columns-before (rangesIn image) narrow (pictureRow image y .cells) wide-whole wide-shown x (rw (row-width image y) h)
+-- So the columns of what is written for its cells sum to the sheet's width.
+pub columns-sum :
+    (image : List ℕ) → checked image .code ≡ 0 →
+    (y : ℕ) → columnsOfCells (rangesIn image) (pictureRow image y .cells) ≡ width image
+columns-sum image accepted y =
+    columns-all (rangesIn image) (narrow-space image accepted) (pictureRow image y .cells) (wide-whole image accepted y) (wide-shown image accepted y)
+    ∙ row-width image y
 
--- So no half character is in what painting leaves. Where it passes, in row i of the band:
-module _ (image : List ℕ) (first rows : ℕ) (cells scratch : List ℕ) (passed : painted image first rows cells scratch .verdict ≡ Passed)
-    (i : ℕ) (h : i < rows) where
+-- And what is written for a cell begins in that cell's column: what is written before it takes as many columns, one more before a continuation.
+pub columns-until :
+    (image : List ℕ) → checked image .code ≡ 0 →
+    (y x : ℕ) → x ≤ width image →
+    columnsOfCells (rangesIn image) (take x (pictureRow image y .cells)) ≡ x + cond (isContinuation (getD (pictureRow image y .cells) x 0)) 1 0
+columns-until image accepted y x h =
+    columns-before (rangesIn image) (narrow-space image accepted) (pictureRow image y .cells) (wide-whole image accepted y) (wide-shown image accepted y)
+    x (rw (row-width image y) h)
+
+-- So no half character is in what painting leaves.
+
+-- where it passes, the image is accepted, and row i of the band is a row of its picture
+module _ (image : List ℕ) (first rows : ℕ) (cells scratch : List ℕ) (passed : painted image first rows cells scratch .verdict ≡ Passed) where
   accepted-plain : checked image .code ≡ 0
   accepted-plain = passed-accepted image first rows _ _ (paint-refuses-as-check image first rows cells scratch) passed
 
-  row-plain : bandRow image i (painted image first rows cells scratch .cells) ≡ pictureRow image (first + i) .cells
+  row-plain : (i : ℕ) → i < rows → bandRow image i (painted image first rows cells scratch .cells) ≡ pictureRow image (first + i) .cells
   unfolding painted
-  row-plain = row-of-band image first rows i _ cells passed h
+  row-plain i h = row-of-band image first rows i _ cells passed h
 
-  -- wide characters are whole,
-  pub band-whole : Whole (rangesIn image) (bandRow image i (painted image first rows cells scratch .cells))
-  band-whole = rw row-plain (wide-whole image accepted-plain (first + i))
+-- Where painting passes, wide characters are whole in each row of the band.
+pub band-whole :
+    (image : List ℕ) (first rows : ℕ) (cells scratch : List ℕ) →
+    painted image first rows cells scratch .verdict ≡ Passed →
+    (i : ℕ) → i < rows → Whole (rangesIn image) (bandRow image i (painted image first rows cells scratch .cells))
+band-whole image first rows cells scratch passed i h =
+    rw (row-plain image first rows cells scratch passed i h)
+    (wide-whole image (accepted-plain image first rows cells scratch passed) (first + i))
 
-  -- and the columns sum to the sheet's width.
-  pub band-columns : columnsOfCells (rangesIn image) (bandRow image i (painted image first rows cells scratch .cells)) ≡ width image
-  band-columns = rw row-plain (columns-sum image accepted-plain (first + i))
+-- And the columns of each row sum to the sheet's width.
+pub band-columns :
+    (image : List ℕ) (first rows : ℕ) (cells scratch : List ℕ) →
+    painted image first rows cells scratch .verdict ≡ Passed →
+    (i : ℕ) → i < rows → columnsOfCells (rangesIn image) (bandRow image i (painted image first rows cells scratch .cells)) ≡ width image
+band-columns image first rows cells scratch passed i h =
+    rw (row-plain image first rows cells scratch passed i h)
+    (columns-sum image (accepted-plain image first rows cells scratch passed) (first + i))
 
--- The same where it paints with colours.
+-- The same of painting with colours.
+
 module _ (image : List ℕ) (first rows : ℕ) (cells colours stamps scratch : List ℕ)
-    (passed : paintedColoured image first rows cells colours stamps scratch .verdict ≡ Passed) (i : ℕ) (h : i < rows) where
+    (passed : paintedColoured image first rows cells colours stamps scratch .verdict ≡ Passed) where
   accepted-coloured : checked image .code ≡ 0
   accepted-coloured = passed-accepted image first rows _ _ (paint-refuses-as-check-coloured image first rows cells colours stamps scratch) passed
 
-  row-coloured : bandRow image i (paintedColoured image first rows cells colours stamps scratch .cells) ≡ pictureRow image (first + i) .cells
+  row-coloured : (i : ℕ) → i < rows → bandRow image i (paintedColoured image first rows cells colours stamps scratch .cells) ≡ pictureRow image (first + i) .cells
   unfolding paintedColoured
-  row-coloured = row-of-band image first rows i _ cells passed h
+  row-coloured i h = row-of-band image first rows i _ cells passed h
 
-  pub band-whole-coloured : Whole (rangesIn image) (bandRow image i (paintedColoured image first rows cells colours stamps scratch .cells))
-  band-whole-coloured = rw row-coloured (wide-whole image accepted-coloured (first + i))
+-- Where it passes, wide characters are whole in each row of the band.
+pub band-whole-coloured :
+    (image : List ℕ) (first rows : ℕ) (cells colours stamps scratch : List ℕ) →
+    paintedColoured image first rows cells colours stamps scratch .verdict ≡ Passed →
+    (i : ℕ) → i < rows → Whole (rangesIn image) (bandRow image i (paintedColoured image first rows cells colours stamps scratch .cells))
+band-whole-coloured image first rows cells colours stamps scratch passed i h =
+    rw (row-coloured image first rows cells colours stamps scratch passed i h)
+    (wide-whole image (accepted-coloured image first rows cells colours stamps scratch passed) (first + i))
 
-  pub band-columns-coloured :
-      columnsOfCells (rangesIn image) (bandRow image i (paintedColoured image first rows cells colours stamps scratch .cells)) ≡ width image
-  band-columns-coloured = rw row-coloured (columns-sum image accepted-coloured (first + i))
+-- And the columns of each row sum to the sheet's width.
+pub band-columns-coloured :
+    (image : List ℕ) (first rows : ℕ) (cells colours stamps scratch : List ℕ) →
+    paintedColoured image first rows cells colours stamps scratch .verdict ≡ Passed →
+    (i : ℕ) → i < rows →
+    columnsOfCells (rangesIn image) (bandRow image i (paintedColoured image first rows cells colours stamps scratch .cells)) ≡ width image
+band-columns-coloured image first rows cells colours stamps scratch passed i h =
+    rw (row-coloured image first rows cells colours stamps scratch passed i h)
+    (columns-sum image (accepted-coloured image first rows cells colours stamps scratch passed) (first + i))
