@@ -5,7 +5,7 @@ use mathlib.Core.Bool.{Bool, true, false}
 use mathlib.Core.List.{List}
 use mathlib.Core.Path.{_≡_, refl, sym, _∙_, ap}
 use lib.Dec.{eqb}
-use lib.ListN.{length, getD, replicate, length-replicate, getD-replicate, List·getD-eq-default}
+use lib.ListN.{length, getD, replicate}
 use borrow.Author.Tests.{eqb-true, eqb-false, lt-ltb, le-ltb}
 use Rattle.ground.proofs.Order.{by-order}
 use Rattle.ground.proofs.Each.{by-bool}
@@ -25,6 +25,7 @@ use Rattle.canvas.specs.Cells.{AllPacked}
 use Rattle.canvas.proofs.Kept.{CodePoint, AllCells, KeptByInk, KeptByCell, at-holds, cells-kept}
 use Rattle.canvas.proofs.Laws.{put-equal, text-none}
 use Rattle.canvas.proofs.Theorems.{put-length, put-off, packings-kept}
+use Rattle.runs.proofs.Steps.{zero-anywhere}
 use Rattle.picture.specs.Characters.{partsAt}
 use Rattle.picture.proofs.Cells.{empty-row}
 use Rattle.picture.proofs.Characters.{Lettered, Letter, letters-kept}
@@ -222,15 +223,11 @@ pub record Sound (ranges row : List ℕ) : Type 0 where
   pub packed : AllPacked row
   pub paired : Paired ranges row
 
-nothing-there : (n k : ℕ) → _≡_ {A = ℕ} (getD (replicate n 0) k 0) 0
-nothing-there n k =
-    by-order k n (λ h. getD-replicate n k 0 0 h) (λ h. List·getD-eq-default (replicate n 0) 0 (rw (length-replicate {A = ℕ} n 0) h))
-
 pub empty-sound : (ranges : List ℕ) (n : ℕ) → Sound ranges (replicate n 0)
 unfolding isWideLead isContinuation read
 empty-sound ranges n = record {
   packed = empty-row Packed empty-packed n;
-  paired = record { start = rw (nothing-there n 0); pairs = λ k. rw (nothing-there n (k + 1), nothing-there n k) };
+  paired = record { start = rw (zero-anywhere n 0); pairs = λ k. rw (zero-anywhere n (k + 1), zero-anywhere n k) };
 }
 
 module _ (ranges : List ℕ) (narrow : widthOf ranges space ≡ 1) where
