@@ -87,6 +87,7 @@ module _ (row : List ℕ) (x : ℕ) where
   unfolding isWideLead
   lead-holds ranges l = rw (l .text, l .wide)
 
+-- A row is whole exactly where its leads and continuations stand in pairs.
 module _ (ranges row : List ℕ) where
   pub whole-of : Paired ranges row → Whole ranges row
   whole-of paired = record {
