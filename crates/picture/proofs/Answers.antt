@@ -34,8 +34,8 @@ module _ (v : Verdict) (needed lent : List ℕ) where
   pub holds-needed : (n : ℕ) (words : List ℕ) → length needed ≡ n → needed ≡ words → v ≡ Passed → Holds n words lent (afterwards v needed lent)
   unfolding afterwards
   holds-needed n words long same e = rw e (record {
-    needed = take-at needed (drop (length needed) lent) n long ∙ same;
-    beyond = drop-at needed (drop (length needed) lent) n long ∙ ap (λ (k : ℕ). drop k lent) long;
+    needed = take-at needed _ n long ∙ same;
+    beyond = drop-at needed _ n long ∙ ap (λ (k : ℕ). drop k lent) long;
   })
 
 -- two buffers afterwards, whatever they were before
@@ -58,13 +58,13 @@ module _ (image : List ℕ) (top rows : ℕ) (lent : List Judged) where
   pub band-verdict : checked image .code ≡ 0 → firstBroken (paintRules image top rows lent) ≡ firstBroken (bandRules image top rows lent)
   band-verdict z = parts ∙ rw (accepted-passes image z)
 
-  outside-verdict : height image < top + rows → firstBroken added ≡ Refused outsideSheet 0
-  unfolding firstBroken bandJudged firstBad
-  outside-verdict h = rw (lt-leb _ _ h)
-
   room-verdict : top + rows ≤ height image → firstBroken added ≡ firstBroken (rule tooLittleRoom lent ∷ [])
   unfolding firstBroken bandJudged firstBad
   room-verdict h = rw (le-leb _ _ h)
+
+  outside-verdict : height image < top + rows → firstBroken added ≡ Refused outsideSheet 0
+  unfolding firstBroken bandJudged firstBad
+  outside-verdict h = rw (lt-leb _ _ h)
 
   pub as-checked : AsChecked image top rows lent (firstBroken (paintRules image top rows lent))
   unfolding firstBroken

@@ -9,7 +9,7 @@ use lib.Dec.{leb, eqb}
 use lib.ListN.{length, take, drop, getD, replicate, length-take, length-replicate, getD-replicate}
 use lib.Seq.{getD-take, getD-drop}
 use borrow.Author.Tests.{leb-true}
-use Rattle.ground.specs.Each.{numbers, between, each}
+use Rattle.ground.specs.Each.{between, each}
 use Rattle.ground.proofs.Each.{and-left, cond-holds}
 use Rattle.cell.specs.declared.Arms.{Arms}
 use Rattle.cell.specs.declared.Weight.{Weight}
@@ -264,26 +264,26 @@ module _ (Q : ℕ → Type 0) (fixed : (ch : ℕ) → Fixed ch → Q ch) where
 
     borders-good : AllOf GoodWrite (borders image ts)
     unfolding borderWrites
-    borders-good = all-each (numbers 0 (ts .subgraphs .count)) _ (λ k. tinted-good _ (border-good _))
+    borders-good = all-each _ _ (λ k. tinted-good _ (border-good _))
 
     edges-good : AllOf GoodWrite (edges image ts)
     unfolding edgeWrites
-    edges-good = all-each (numbers 0 (ts .edges .count)) _ (λ k. tinted-good _ (edge-good _ _))
+    edges-good = all-each _ _ (λ k. tinted-good _ (edge-good _ _))
 
     of-label-good : (p : PlacedLabel) (e : Edge) → AllOf GoodWrite (writesOfLabel image ts p e)
     of-label-good p e = tinted-good (colourTint (e .«label_colour»)) (placed-good _ ranges p (e .label) (label-good (e .label)))
 
     placed-labels-good : AllOf GoodWrite (placedLabels image ts)
     unfolding placedLabelWrites
-    placed-labels-good = all-each (numbers 0 (ts .labels .count)) (placedLabelWrites image ts) (λ k. of-label-good (placedLabelAt image (ts .labels) k) (edgeAt image (ts .edges) (placedLabelAt image (ts .labels) k .edge)))
+    placed-labels-good = all-each _ (placedLabelWrites image ts) (λ k. of-label-good (placedLabelAt image (ts .labels) k) (edgeAt image (ts .edges) (placedLabelAt image (ts .labels) k .edge)))
 
     nodes-good : AllOf GoodWrite (nodes image ts)
     unfolding nodeWrites
-    nodes-good = all-each (numbers 0 (ts .nodes .count)) _ (λ k. tinted-good _ (look-good ranges _ _ (glyphs-good _)))
+    nodes-good = all-each _ _ (λ k. tinted-good _ (look-good ranges _ _ (glyphs-good _)))
 
     subgraph-labels-good : AllOf GoodWrite (subgraphLabels image ts)
     unfolding subgraphLabelWrites
-    subgraph-labels-good = all-each (numbers 0 (ts .subgraphs .count)) _ (λ k. tinted-good _ (subgraph-label-good ranges _ (glyphs-good _)))
+    subgraph-labels-good = all-each _ _ (λ k. tinted-good _ (subgraph-label-good ranges _ (glyphs-good _)))
 
     -- What all ink keeps, and an empty row has, a row of the picture has.
     pub row-has : (P : List ℕ → Type 0) → KeptByInk ranges Q P → P (replicate (width image) 0) → (y : ℕ) → P (rowPainted image ts y .cells)
