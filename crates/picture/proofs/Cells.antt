@@ -3,7 +3,7 @@ use native.Mathlib.Omega.{arith}
 use Prim.Native.Nat.{ℕ, zero, suc, _+_, _*_, _≤_, _<_}
 use mathlib.Core.Bool.{Bool, true, false, cond, _&&_}
 use mathlib.Core.List.{List, [], _∷_, _++_, map}
-use mathlib.Core.Logic.{_⊎_, ⊎-elim}
+use mathlib.Core.Logic.{⊎-elim}
 use mathlib.Core.Path.{_≡_, refl}
 use lib.Dec.{leb, eqb}
 use lib.ListN.{length, take, drop, getD, replicate, length-take, length-replicate, getD-replicate}
@@ -24,7 +24,7 @@ use Rattle.canvas.specs.Cells.{AllPacked}
 use Rattle.canvas.proofs.Kept.{CodePoint, AllCells, KeptByInk}
 use Rattle.canvas.proofs.Theorems.{packings-kept}
 use Rattle.layout.specs.declared.Tables.{Tables}
-use Rattle.layout.specs.Layout.{maxScalar, firstSurrogate, lastSurrogate, glyphSize, glyphValue}
+use Rattle.layout.specs.Layout.{glyphSize, glyphValue}
 use Rattle.layout.specs.Tables.{word, tableEnd, recordAt, field, tablesOf}
 use Rattle.image.specs.declared.Span.{Span}
 use Rattle.image.specs.declared.Node.{Node}
@@ -55,6 +55,7 @@ use Rattle.frame.specs.PlacedLabels.{paintsUnder, placedLabelSpots}
 use Rattle.things.specs.Things.{rangesOf, labelGlyphs}
 use Rattle.window.specs.declared.Tint.{Tint}
 use Rattle.window.specs.Writes.{Write, tinted, colourTint, inkOn, inkCells, rowAfter, Canvas, inkRow}
+use Rattle.refusals.specs.Accepted.{Keeps}
 use Rattle.runs.specs.Runs.{flushRow}
 use Rattle.picture.specs.Writes.{borderWrites, edgeWrites, edgeLabelGlyphs, writesOfLabel, placedLabelWrites, nodeWrites, subgraphLabelWrites}
 use Rattle.picture.specs.Writes.{borders, edges, placedLabels, nodes, subgraphLabels}
@@ -99,9 +100,13 @@ pub glyph-size : (image : List ℕ) → tablesOf image .glyphs .size ≡ glyphSi
 unfolding tablesOf
 glyph-size image = refl
 
--- A glyph that keeps its rule is a code point.
-pub code-point : (n : ℕ) → (n < firstSurrogate) ⊎ ((lastSurrogate < n) × (n ≤ maxScalar)) → CodePoint n
-code-point n s = ⊎-elim (λ low. omega arith) (λ high. high .1) s
+-- every glyph of an image is a code point
+abbrev pub CodePoints : List ℕ → Type 0
+CodePoints image = (k : ℕ) → k < tablesOf image .glyphs .count → CodePoint (field image (tablesOf image .glyphs) k glyphValue)
+
+-- The rule of a glyph sees to it.
+pub code-points : (image : List ℕ) → Keeps image → CodePoints image
+code-points image keeps k h = ⊎-elim (λ low. omega arith) (λ high. high .1) (keeps .tables .fields .glyphs k h .value)
 
 -- Ink whose glyphs have a property, which the characters that painting itself writes have too.
 module _ (Q : ℕ → Type 0) (fixed : (ch : ℕ) → Fixed ch → Q ch) where

@@ -28,7 +28,7 @@ use Rattle.picture.specs.Picture.{width, pictureRow, pictureCells}
 use Rattle.picture.specs.Painted.{room, afterwards}
 use Rattle.picture.specs.Characters.{partsAt, Character, written, glyph}
 use Rattle.picture.proofs.Laws.{cells-length}
-use Rattle.picture.proofs.Cells.{glyph-size, code-point, fixed-code-point, empty-row, row-has}
+use Rattle.picture.proofs.Cells.{glyph-size, code-points, fixed-code-point, empty-row, row-has}
 
 -- Of any property of characters: a cell is a packing, and its character, where it is a text, has the property.
 module _ (Q : ℕ → Type 0) where
@@ -85,7 +85,7 @@ module _ (image : List ℕ) (keeps : Keeps image) where
   own-letter :
       (k : ℕ) → k < tablesOf image .glyphs .count →
       Letter (Character image) (field image (tablesOf image .glyphs) k glyphValue)
-  own-letter k h = (code-point _ (keeps .tables .fields .glyphs k h .value), glyph k h refl)
+  own-letter k h = (code-points image keeps k h, glyph k h refl)
 
   row-lettered : (y : ℕ) → AllCells (Lettered (Character image)) (pictureRow image y .cells)
   row-lettered y =

@@ -21,7 +21,7 @@ use Rattle.picture.specs.ProofTable.{ProofTable, ExampleA}
 use Rattle.picture.proofs.Statements.{IsRows, plainWindow, rowsOf, bands, OnlyListing, AsChecked, Band, SameBand, AllKept, ColouredBand, SameColouredBand}
 use Rattle.picture.proofs.Table.{table, example}
 use Rattle.picture.proofs.Laws.{window-rows, plain-rows, cells-length, colours-length}
-use Rattle.picture.proofs.Cells.{glyph-size, code-point, row-of-packings}
+use Rattle.picture.proofs.Cells.{glyph-size, code-points, row-of-packings}
 use Rattle.picture.proofs.Characters.{row-characters, band-characters, printable}
 use Rattle.picture.proofs.ListFree.{one-picture}
 use Rattle.picture.proofs.Bands.{cells-bands, colours-bands}
@@ -40,8 +40,7 @@ example-a = example
 -- Every cell of an accepted image's picture is the packing of valid parts.
 pub every-cell : (image : List ℕ) → checked image .code ≡ 0 → (y : ℕ) → AllPacked (pictureRow image y .cells)
 every-cell image accepted y =
-    let keeps = accepted-iff image .0 accepted in
-    row-of-packings image (tablesOf image) (glyph-size image) (λ k h. code-point _ (keeps .tables .fields .glyphs k h .value)) y
+    row-of-packings image (tablesOf image) (glyph-size image) (code-points image (accepted-iff image .0 accepted)) y
 
 -- Every character of an accepted image's picture is a glyph of the image, or one of the four that painting itself writes.
 pub picture-characters :

@@ -29,6 +29,16 @@ lead ranges row k = isWideLead (getD row k 0) ranges
 pub never : {P : Type 0} (test : Bool) → test ≡ true → test ≡ false → P
 never test p q = absurd (let z : _≡_ {A = ℕ} 0 1 = cc in omega arith)
 
+-- a packing is what its parts are
+
+pub pack-lead : (ranges : List ℕ) (p : Parts) → Valid p → isWideLead (pack p) ranges ≡ leadParts p ranges
+unfolding isWideLead
+pack-lead ranges p valid = rw (read-pack p valid)
+
+pub pack-cont : (p : Parts) → Valid p → isContinuation (pack p) ≡ continuationParts p
+unfolding isContinuation
+pack-cont p valid = rw (read-pack p valid)
+
 -- no cell is both
 
 lead-alone : (ranges : List ℕ) (p : Parts) → leadParts p ranges ≡ true → continuationParts p ≡ false
@@ -129,12 +139,12 @@ module _ (ranges : List ℕ) where
 
   module _ (narrow : widthOf ranges space ≡ 1) where
     space-lead : isWideLead (pack (Text space)) ranges ≡ false
-    unfolding isWideLead Valid
-    space-lead = rw (read-pack (Text space) (omega arith), narrow)
+    unfolding Valid
+    space-lead = pack-lead ranges (Text space) (omega arith) ∙ rw narrow
 
     space-cont : isContinuation (pack (Text space)) ≡ false
-    unfolding isContinuation Valid
-    space-cont = rw (read-pack (Text space) (omega arith))
+    unfolding Valid
+    space-cont = pack-cont (Text space) (omega arith)
 
     blanked-set :
         (row : List ℕ) (x : ℕ) → 0 < x → cont row x ≡ true → lead ranges row (x - 1) ≡ true →

@@ -16,7 +16,7 @@ use Rattle.cell.specs.declared.MarkerKind.{MarkerKind}
 use Rattle.cell.specs.declared.MarkerKind.the-variants.{Arrow, SelfLoop, Dummy}
 use Rattle.cell.specs.declared.Dir.{Dir}
 use Rattle.cell.specs.OneCell.{pack, read, Valid, Packed, heavierArms, hasDouble, stem, doubleOnMarker, stroked, marked, paintedStroke, paintedMarker, paintedText}
-use Rattle.cell.proofs.Theorems.{read-pack, pack-read, empty-packed}
+use Rattle.cell.proofs.Theorems.{pack-read, empty-packed}
 use Rattle.glyph.specs.Width.{widthOf}
 use Rattle.glyph.proofs.Theorems.{width-bound}
 use Rattle.canvas.specs.Row.{space, leadParts, continuationParts, isWideLead, isContinuation, put}
@@ -30,7 +30,7 @@ use Rattle.picture.specs.Characters.{partsAt}
 use Rattle.picture.proofs.Cells.{empty-row}
 use Rattle.picture.proofs.Characters.{Lettered, Letter, letters-kept}
 use Rattle.whole.specs.Whole.{WideLead, Continues, Whole, Shown}
-use Rattle.whole.proofs.Pairs.{lead, cont, never, cont-inside, put-at, Paired, next-gone, single-paired, double-paired}
+use Rattle.whole.proofs.Pairs.{lead, cont, never, pack-lead, pack-cont, cont-inside, put-at, Paired, next-gone, single-paired, double-paired}
 
 -- A stroke leaves the parts, or a stroke.
 by-stroked : {P : Type 0} (p : Parts) (new : Arms) → (stroked p new ≡ p → P) → ((a : Arms) → stroked p new ≡ Stroke a → P) → P
@@ -115,26 +115,17 @@ module _ (ranges row : List ℕ) where
 
 -- Where the space has width 1, ink keeps leads and continuations in pairs.
 module _ (ranges : List ℕ) (narrow : widthOf ranges space ≡ 1) where
-  module _ (p : Parts) (valid : Valid p) where
-    pack-lead : isWideLead (pack p) ranges ≡ leadParts p ranges
-    unfolding isWideLead
-    pack-lead = rw (read-pack p valid)
-
-    pack-cont : isContinuation (pack p) ≡ continuationParts p
-    unfolding isContinuation
-    pack-cont = rw (read-pack p valid)
-
-    -- a cell of one column
-    one-paired :
-        (row : List ℕ) (x : ℕ) → leadParts p ranges ≡ false → continuationParts p ≡ false →
-        Paired ranges row → Paired ranges (put row ranges x (pack p))
-    one-paired row x l c paired =
-        by-order x (length row)
-        (λ inside. by-bool (eqb (getD row x 0) (pack p))
-        (λ e. rw (← put-equal row ranges x (pack p) (eqb-true _ _ e)) paired)
-        (λ e. single-paired ranges row (put row ranges x (pack p)) x (pack p) (put-at ranges narrow row x (pack p) inside (eqb-false _ _ e))
-        (pack-lead ∙ l) (pack-cont ∙ c) paired))
-        (λ past. rw (put-off row ranges x (pack p) past) paired)
+  -- a cell of one column
+  one-paired :
+      (p : Parts) → Valid p → leadParts p ranges ≡ false → continuationParts p ≡ false →
+      (row : List ℕ) (x : ℕ) → Paired ranges row → Paired ranges (put row ranges x (pack p))
+  one-paired p valid l c row x paired =
+      by-order x (length row)
+      (λ inside. by-bool (eqb (getD row x 0) (pack p))
+      (λ e. rw (← put-equal row ranges x (pack p) (eqb-true _ _ e)) paired)
+      (λ e. single-paired ranges row (put row ranges x (pack p)) x (pack p) (put-at ranges narrow row x (pack p) inside (eqb-false _ _ e))
+      (pack-lead ranges p valid ∙ l) (pack-cont p valid ∙ c) paired))
+      (λ past. rw (put-off row ranges x (pack p) past) paired)
 
   module _ (row : List ℕ) (packed : AllPacked row) (paired : Paired ranges row) where
     -- the parts that stand there already
@@ -147,7 +138,7 @@ module _ (ranges : List ℕ) (narrow : widthOf ranges space ≡ 1) where
         by-order x (length row)
         (λ inside. by-stroked (partsAt row x) arms
         (λ e. same-paired x _ inside e)
-        (λ a e. rw e (one-paired (Stroke a) tt row x refl refl paired)))
+        (λ a e. rw e (one-paired (Stroke a) tt refl refl row x paired)))
         (λ past. rw (put-off row ranges x _ past) paired)
 
     marker-paired : (x : ℕ) (kind : MarkerKind) (dir : Dir) (dashed : Bool) → Paired ranges (markerRow row ranges x kind dir dashed)
@@ -156,13 +147,13 @@ module _ (ranges : List ℕ) (narrow : widthOf ranges space ≡ 1) where
         by-order x (length row)
         (λ inside. by-marked (partsAt row x) kind dir dashed
         (λ e. same-paired x _ inside e)
-        (λ e. rw e (one-paired (Marker kind dir dashed) tt row x refl refl paired)))
+        (λ e. rw e (one-paired (Marker kind dir dashed) tt refl refl row x paired)))
         (λ past. rw (put-off row ranges x _ past) paired)
 
     module _ (x ch : ℕ) (valid : CodePoint ch) where
       letter-paired : widthOf ranges ch ≡ 1 → Paired ranges (letterRow row ranges x ch)
       unfolding letterRow paintedText Valid
-      letter-paired one = one-paired (Text ch) valid row x (rw one) refl paired
+      letter-paired one = one-paired (Text ch) valid (rw one) refl row x paired
 
       -- A wide glyph with a column to its right.
       module _ (two : widthOf ranges ch ≡ 2) (inside : x + 1 < length row) where
@@ -174,7 +165,7 @@ module _ (ranges : List ℕ) (narrow : widthOf ranges space ≡ 1) where
 
         first-lead : isWideLead first ranges ≡ true
         unfolding Valid
-        first-lead = pack-lead (Text ch) valid ∙ rw two
+        first-lead = pack-lead ranges (Text ch) valid ∙ rw two
 
         second-cont : isContinuation second ≡ true
         unfolding Valid
@@ -195,7 +186,7 @@ module _ (ranges : List ℕ) (narrow : widthOf ranges space ≡ 1) where
             let none : cont half (x + 1) ≡ false = next-gone ranges row half x first p paired in
             let q = put-at ranges narrow half (x + 1) second (omega arith) (λ e. never (cont half (x + 1)) (rw e second-cont) none) in
             double-paired ranges row half (put half ranges (x + 1) second) x first second p q
-            first-lead (pack-cont (Text ch) valid) second-cont (pack-lead Continuation tt) paired
+            first-lead (pack-cont (Text ch) valid) second-cont (pack-lead ranges Continuation tt) paired
 
     wide-paired : (x ch : ℕ) → CodePoint ch → widthOf ranges ch ≡ 2 → Paired ranges (wideRow row ranges x ch)
     unfolding wideRow letterRow paintedText
@@ -220,20 +211,20 @@ module _ (ranges : List ℕ) (narrow : widthOf ranges space ≡ 1) where
         rw (e, f) (letter-paired x ch valid (omega (arith, width-bound ranges ch)))))
 
 -- What ink keeps of a row for that: its cells are packings, and leads and continuations stand in pairs.
-pub record Sound (ranges row : List ℕ) : Type 0 where
+pub record PackedPairs (ranges row : List ℕ) : Type 0 where
   pub packed : AllPacked row
   pub paired : Paired ranges row
 
-pub empty-sound : (ranges : List ℕ) (n : ℕ) → Sound ranges (replicate n 0)
+pub empty-pairs : (ranges : List ℕ) (n : ℕ) → PackedPairs ranges (replicate n 0)
 unfolding isWideLead isContinuation read
-empty-sound ranges n = record {
+empty-pairs ranges n = record {
   packed = empty-row Packed empty-packed n;
   paired = record { start = rw (zero-anywhere n 0); pairs = λ k. rw (zero-anywhere n (k + 1), zero-anywhere n k) };
 }
 
 module _ (ranges : List ℕ) (narrow : widthOf ranges space ≡ 1) where
-  pub sound-kept : KeptByInk ranges CodePoint (Sound ranges)
-  sound-kept =
+  pub pairs-kept : KeptByInk ranges CodePoint (PackedPairs ranges)
+  pairs-kept =
       let packings = packings-kept ranges in
       record {
         strokes = λ row x arms s. record {
@@ -252,21 +243,21 @@ module _ (ranges : List ℕ) (narrow : widthOf ranges space ≡ 1) where
 
 -- A character that is painted takes a column.
 
-abbrev pub Takes : List ℕ → ℕ → Type 0
-Takes ranges ch = 1 ≤ widthOf ranges ch
+abbrev pub TakesColumn : List ℕ → ℕ → Type 0
+TakesColumn ranges ch = 1 ≤ widthOf ranges ch
 
 -- the cells of a row are packings, and each of its characters takes a column
-abbrev pub AllTake : List ℕ → List ℕ → Type 0
-AllTake ranges row = AllCells (Lettered (Takes ranges)) row
+abbrev pub AllTakeColumns : List ℕ → List ℕ → Type 0
+AllTakeColumns ranges row = AllCells (Lettered (TakesColumn ranges)) row
 
 module _ (ranges : List ℕ) (narrow : widthOf ranges space ≡ 1) where
-  cell-takes : KeptByCell (Letter (Takes ranges)) (Lettered (Takes ranges))
-  cell-takes = letters-kept (Takes ranges) (omega arith, omega arith)
+  cell-takes : KeptByCell (Letter (TakesColumn ranges)) (Lettered (TakesColumn ranges))
+  cell-takes = letters-kept (TakesColumn ranges) (omega arith, omega arith)
 
-  pub empty-takes : (n : ℕ) → AllTake ranges (replicate n 0)
-  empty-takes n = empty-row (Lettered (Takes ranges)) (cell-takes .empty) n
+  pub empty-takes : (n : ℕ) → AllTakeColumns ranges (replicate n 0)
+  empty-takes n = empty-row (Lettered (TakesColumn ranges)) (cell-takes .empty) n
 
-  pub takes-kept : KeptByInk ranges CodePoint (AllTake ranges)
+  pub takes-kept : KeptByInk ranges CodePoint (AllTakeColumns ranges)
   takes-kept =
       let letters = cells-kept cell-takes ranges in
       record {
@@ -278,5 +269,5 @@ module _ (ranges : List ℕ) (narrow : widthOf ranges space ≡ 1) where
             (λ h. rw (← text-none row ranges x ch (omega arith)) all);
       }
 
-  pub shown-of : (row : List ℕ) → AllTake ranges row → Shown ranges row
+  pub shown-of : (row : List ℕ) → AllTakeColumns ranges row → Shown ranges row
   shown-of row all x ch e = (at-holds cell-takes x row all .letter ch e, width-bound ranges ch)

@@ -6,8 +6,7 @@ use mathlib.Core.Path.{_≡_, _∙_}
 use lib.ListN.{getD, take, replicate}
 use Rattle.glyph.specs.Width.{widthOf}
 use Rattle.glyph.specs.Ranges as fixed
-use Rattle.layout.specs.Layout.{glyphValue}
-use Rattle.layout.specs.Tables.{field, tablesOf}
+use Rattle.layout.specs.Tables.{tablesOf}
 use Rattle.canvas.specs.Row.{space, isContinuation}
 use Rattle.canvas.proofs.Kept.{CodePoint, KeptByInk}
 use Rattle.refusals.specs.declared.Verdict.the-variants.{Passed}
@@ -16,16 +15,12 @@ use Rattle.refusals.proofs.Theorems.{accepted-iff, accepted-widths}
 use Rattle.picture.specs.Picture.{width, pictureRow}
 use Rattle.picture.specs.Painted.{painted, paintedColoured}
 use Rattle.picture.proofs.Laws.{row-width}
-use Rattle.picture.proofs.Cells.{glyph-size, code-point, fixed-code-point, row-has}
+use Rattle.picture.proofs.Cells.{glyph-size, CodePoints, code-points, fixed-code-point, row-has}
 use Rattle.picture.proofs.Answers.{passed-accepted, row-of-band}
 use Rattle.picture.proofs.Theorems.{paint-refuses-as-check, paint-refuses-as-check-coloured}
 use Rattle.whole.specs.Whole.{rangesIn, Whole, Shown, columnsOfCells, bandRow}
-use Rattle.whole.proofs.Rows.{whole-of, Sound, empty-sound, sound-kept, AllTake, empty-takes, takes-kept, shown-of}
+use Rattle.whole.proofs.Rows.{whole-of, PackedPairs, empty-pairs, pairs-kept, AllTakeColumns, empty-takes, takes-kept, shown-of}
 use Rattle.whole.proofs.Columns.{columns-before, columns-all}
-
--- every glyph of an image is a code point
-abbrev pub CodePoints : List ℕ → Type 0
-CodePoints image = (k : ℕ) → k < tablesOf image .glyphs .count → CodePoint (field image (tablesOf image .glyphs) k glyphValue)
 
 -- Any image, accepted or not, whose glyphs are code points and whose ranges give the space width 1.
 
@@ -42,7 +37,7 @@ pub wide-whole-of :
 wide-whole-of image good narrow y =
     let ranges = rangesIn image in
     whole-of ranges (pictureRow image y .cells)
-    (row-of-ink image good (Sound ranges) (sound-kept ranges narrow) (empty-sound ranges (width image)) y .paired)
+    (row-of-ink image good (PackedPairs ranges) (pairs-kept ranges narrow) (empty-pairs ranges (width image)) y .paired)
 
 -- Every character in such a row has width 1 or 2.
 pub wide-shown-of :
@@ -51,12 +46,12 @@ pub wide-shown-of :
 wide-shown-of image good narrow y =
     let ranges = rangesIn image in
     shown-of ranges narrow (pictureRow image y .cells)
-    (row-of-ink image good (AllTake ranges) (takes-kept ranges narrow) (empty-takes ranges narrow (width image)) y)
+    (row-of-ink image good (AllTakeColumns ranges) (takes-kept ranges narrow) (empty-takes ranges narrow (width image)) y)
 
 -- An accepted image is such an image.
 
-code-points : (image : List ℕ) → checked image .code ≡ 0 → CodePoints image
-code-points image accepted k h = code-point _ (accepted-iff image .0 accepted .tables .fields .glyphs k h .value)
+own-code-points : (image : List ℕ) → checked image .code ≡ 0 → CodePoints image
+own-code-points image accepted = code-points image (accepted-iff image .0 accepted)
 
 narrow-space : (image : List ℕ) → checked image .code ≡ 0 → widthOf (rangesIn image) space ≡ 1
 narrow-space image accepted = accepted-widths image accepted .fixed space fixed.space
@@ -66,13 +61,13 @@ narrow-space image accepted = accepted-widths image accepted .fixed space fixed.
 pub wide-whole :
     (image : List ℕ) → checked image .code ≡ 0 →
     (y : ℕ) → Whole (rangesIn image) (pictureRow image y .cells)
-wide-whole image accepted y = wide-whole-of image (code-points image accepted) (narrow-space image accepted) y
+wide-whole image accepted y = wide-whole-of image (own-code-points image accepted) (narrow-space image accepted) y
 
 -- Every character in such a row has width 1 or 2.
 pub wide-shown :
     (image : List ℕ) → checked image .code ≡ 0 →
     (y : ℕ) → Shown (rangesIn image) (pictureRow image y .cells)
-wide-shown image accepted y = wide-shown-of image (code-points image accepted) (narrow-space image accepted) y
+wide-shown image accepted y = wide-shown-of image (own-code-points image accepted) (narrow-space image accepted) y
 
 -- So the columns of what is written for its cells sum to the sheet's width.
 pub columns-sum :
