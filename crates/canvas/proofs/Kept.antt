@@ -25,23 +25,27 @@ CodePoint ch = ch ≤ 0x10FFFF
 abbrev pub AllCells : (ℕ → Type 0) → List ℕ → Type 0
 AllCells C row = (k : ℕ) → k < length row → C (getD row k 0)
 
--- what a row keeps, whatever is inked in it, where the glyphs have the property Q
-pub record KeptByInk (ranges : List ℕ) (Q : ℕ → Type 0) (P : List ℕ → Type 0) : Type 0 where
-  pub strokes : (row : List ℕ) (x : ℕ) (arms : Arms) → P row → P (strokeRow row ranges x arms)
+-- the property that every stroke has
+abbrev pub AnyStroke : Arms → Type 0
+AnyStroke arms = Unit {0}
+
+-- what a row keeps, whatever is inked in it, where the strokes have the property S and the glyphs the property Q
+pub record KeptByInk (ranges : List ℕ) (S : Arms → Type 0) (Q : ℕ → Type 0) (P : List ℕ → Type 0) : Type 0 where
+  pub strokes : (row : List ℕ) (x : ℕ) (arms : Arms) → S arms → P row → P (strokeRow row ranges x arms)
   pub markers : (row : List ℕ) (x : ℕ) (kind : MarkerKind) (dir : Dir) (dashed : Bool) → P row → P (markerRow row ranges x kind dir dashed)
   pub glyphs : (row : List ℕ) (x ch : ℕ) → Q ch → P row → P (textRow row ranges x ch)
 
--- what one cell keeps, whatever is inked on it, where the glyphs have the property Q
-pub record KeptByCell (Q C : ℕ → Type 0) : Type 0 where
+-- what one cell keeps, whatever is inked on it, where the strokes have the property S and the glyphs the property Q
+pub record KeptByCell (S : Arms → Type 0) (Q C : ℕ → Type 0) : Type 0 where
   pub empty : C 0
   pub continuation : C (pack Continuation)
   -- a lead that lost its continuation, and a wide glyph in the last column, become a space
   pub blank : Q space
-  pub strokes : (new : Arms) (w : ℕ) → C w → C (paintedStroke w new)
+  pub strokes : (new : Arms) (w : ℕ) → S new → C w → C (paintedStroke w new)
   pub markers : (kind : MarkerKind) (dir : Dir) (dashed : Bool) (w : ℕ) → C w → C (paintedMarker w kind dir dashed)
   pub glyphs : (ch : ℕ) → Q ch → C (pack (Text ch))
 
-module _ {Q C : ℕ → Type 0} (keeps : KeptByCell Q C) where
+module _ {S : Arms → Type 0} {Q C : ℕ → Type 0} (keeps : KeptByCell S Q C) where
   set-keeps : (x new : ℕ) (row : List ℕ) → AllCells C row → C new → AllCells C (set row x new)
   set-keeps x new row all p k h =
       let inside : k < length row = rw length-set at h in
@@ -89,10 +93,10 @@ module _ {Q C : ℕ → Type 0} (keeps : KeptByCell Q C) where
       (letter-keeps row ranges x space (keeps .blank) all)
 
   -- So all ink keeps it of every cell of a row.
-  pub cells-kept : (ranges : List ℕ) → KeptByInk ranges Q (AllCells C)
+  pub cells-kept : (ranges : List ℕ) → KeptByInk ranges S Q (AllCells C)
   unfolding strokeRow markerRow textRow
   cells-kept ranges = record {
-    strokes = λ row x arms all. put-keeps row ranges x _ all (keeps .strokes arms _ (at-holds x row all));
+    strokes = λ row x arms s all. put-keeps row ranges x _ all (keeps .strokes arms _ s (at-holds x row all));
     markers = λ row x kind dir dashed all. put-keeps row ranges x _ all (keeps .markers kind dir dashed _ (at-holds x row all));
     glyphs = λ row x ch q all.
         cond-holds (AllCells C) (eqb (widthOf ranges ch) 0)

@@ -23,7 +23,7 @@ use Rattle.canvas.proofs.Laws.{no-lead-here, no-continuation-here}
 
 -- a number that a weight has, and one that none has
 
-arm-low : (n : ℕ) → n ≤ 3 → armNumber n ≡ n
+pub arm-low : (n : ℕ) → n ≤ 3 → armNumber n ≡ n
 arm-low zero h = refl
 arm-low (suc zero) h = refl
 arm-low (suc (suc zero)) h = refl
@@ -49,7 +49,7 @@ pub arm-none : (old new : ℕ) → new ≤ 3 → 3 < old → (new ≡ max (armNu
 arm-none old new k h = (omega (arith, arm-high old h), k)
 
 -- the heavier of two is the one of the greater number
-heavier-number : (a b : Weight) → weightNumber (heavier a b) ≡ max (weightNumber a) (weightNumber b)
+pub heavier-number : (a b : Weight) → weightNumber (heavier a b) ≡ max (weightNumber a) (weightNumber b)
 heavier-number a b =
     by-order (weightNumber a) (weightNumber b)
     (λ h. ap weightNumber (sym (heavier-second a b h)) ∙ omega arith)

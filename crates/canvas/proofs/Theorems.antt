@@ -21,7 +21,7 @@ use Rattle.canvas.specs.Row.{put, strokeRow, markerRow, letterRow, wideR
 use Rattle.canvas.specs.Cells.{AllPacked}
 use Rattle.canvas.specs.ProofTable.{ProofTableRow}
 use Rattle.canvas.proofs.Laws.{past-end, last-column, no-continuation-here}
-use Rattle.canvas.proofs.Kept.{KeptByInk, KeptByCell, CodePoint, put-keeps, cells-kept}
+use Rattle.canvas.proofs.Kept.{AnyStroke, KeptByInk, KeptByCell, CodePoint, put-keeps, cells-kept}
 
 -- The length.
 
@@ -136,19 +136,19 @@ text-off row ranges x ch h =
 
 -- Every cell that is written is a packing.
 
-packing-kept : KeptByCell CodePoint Packed
+packing-kept : KeptByCell AnyStroke CodePoint Packed
 unfolding pack paintedText
 packing-kept = record {
   empty = empty-packed;
   continuation = continuation-packed;
   blank = omega arith;
-  strokes = stroke-packed;
+  strokes = λ new w s p. stroke-packed new w p;
   markers = marker-packed;
   glyphs = λ ch valid. text-packed ch 0 valid;
 }
 
 -- Ink leaves a row of packings, where the glyphs are Unicode's code points.
-pub packings-kept : (ranges : List ℕ) → KeptByInk ranges CodePoint AllPacked
+pub packings-kept : (ranges : List ℕ) → KeptByInk ranges AnyStroke CodePoint AllPacked
 packings-kept ranges = cells-kept packing-kept ranges
 
 -- A packing put into a row of packings leaves a row of packings.
@@ -164,7 +164,7 @@ pub stroke-packed-row :
     (row ranges : List ℕ) (x : ℕ) (arms : Arms) →
     AllPacked row →
     AllPacked (strokeRow row ranges x arms)
-stroke-packed-row row ranges x arms all = packings-kept ranges .strokes row x arms all
+stroke-packed-row row ranges x arms all = packings-kept ranges .strokes row x arms tt all
 
 -- So does a marker.
 pub marker-packed-row :

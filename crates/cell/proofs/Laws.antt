@@ -139,7 +139,7 @@ pub dashed-small : (b : Bool) → cond b 1 0 ≤ 1
 dashed-small true = omega arith
 dashed-small false = omega arith
 
-weight-back : (w : Weight) → weightOf (weightNumber w) ≡ w
+pub weight-back : (w : Weight) → weightOf (weightNumber w) ≡ w
 weight-back weight.None = refl
 weight-back weight.Dashed = refl
 weight-back weight.Light = refl

@@ -44,7 +44,7 @@ fn image_verdict(image: &[u32]) -> Verdict
 }
 
 // The codes of the check, then 11 and 12 of a plain band.
-fn plain_verdict(
+pub fn plain_verdict(
     image: &[u32],
     first: usize,
     rows: usize,
@@ -81,7 +81,7 @@ pub fn paint(
 }
 
 // The codes of the check, then 11 and 12 of a coloured band.
-fn coloured_verdict(
+pub fn coloured_verdict(
     image: &[u32],
     first: usize,
     rows: usize,

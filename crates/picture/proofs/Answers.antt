@@ -127,11 +127,18 @@ module _ (image : List ℕ) (first rows : ℕ) (inside : first + rows ≤ height
   colours-of-whole = whole-cut (pictureColours image) (width image) (colours-length image) (colours-join image) first rows (height image) inside
 
 -- Where painting passes, row i of what it leaves is that row of the picture.
-pub row-of-band :
-    (image : List ℕ) (first rows i : ℕ) (v : Verdict) (lent : List ℕ) → v ≡ Passed → i < rows →
-    take (width image) (drop (room image i) (afterwards v (pictureCells image first rows) lent)) ≡ pictureRow image (first + i) .cells
-unfolding afterwards pictureCells numbers each
-row-of-band image first rows i v lent e h =
-    let past = drop (length (pictureCells image first rows)) lent in
-    let row = band-cut (pictureCells image) (width image) (cells-length image) (cells-join image) first i 1 rows past (omega arith) in
-    rw e (rw (mul-one, append-nil) at row)
+
+module _ (image : List ℕ) (first rows i : ℕ) (v : Verdict) (lent : List ℕ) (e : v ≡ Passed) (h : i < rows) where
+  pub row-of-band : take (width image) (drop (room image i) (afterwards v (pictureCells image first rows) lent)) ≡ pictureRow image (first + i) .cells
+  unfolding afterwards pictureCells numbers each
+  row-of-band =
+      let past = drop (length (pictureCells image first rows)) lent in
+      let row = band-cut (pictureCells image) (width image) (cells-length image) (cells-join image) first i 1 rows past (omega arith) in
+      rw e (rw (mul-one, append-nil) at row)
+
+  pub colours-of-band : take (width image) (drop (room image i) (afterwards v (pictureColours image first rows) lent)) ≡ pictureRow image (first + i) .colours
+  unfolding afterwards pictureColours numbers each
+  colours-of-band =
+      let past = drop (length (pictureColours image first rows)) lent in
+      let row = band-cut (pictureColours image) (width image) (colours-length image) (colours-join image) first i 1 rows past (omega arith) in
+      rw e (rw (mul-one, append-nil) at row)

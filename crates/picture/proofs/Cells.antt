@@ -1,27 +1,29 @@
--- What all ink keeps, where the glyphs have a property, each row of a picture has: so each cell is the packing of valid parts, where they are Unicode's.
+-- What all ink keeps, where the strokes and the glyphs have a property each, each row of a picture has: so each cell is the packing of valid parts, where the
+-- glyphs are Unicode's.
 use native.Mathlib.Omega.{arith}
-use Prim.Native.Nat.{ℕ, zero, suc, _+_, _*_, _≤_, _<_}
-use mathlib.Core.Bool.{Bool, true, false, cond, _&&_}
-use mathlib.Core.List.{List, [], _∷_, _++_, map}
+use Prim.Native.Nat.{ℕ, _+_, _*_, _≤_, _<_}
+use mathlib.Core.Bool.{Bool, true, false, _&&_}
+use mathlib.Core.List.{List}
 use mathlib.Core.Logic.{⊎-elim}
 use mathlib.Core.Path.{_≡_, refl}
 use lib.Dec.{leb, eqb}
-use lib.ListN.{length, take, drop, getD, replicate, length-take, length-replicate, getD-replicate}
+use lib.ListN.{length, take, drop, replicate, length-take, length-replicate, getD-replicate}
 use lib.Seq.{getD-take, getD-drop}
-use borrow.Author.Tests.{leb-true}
+use borrow.Author.Tests.{leb-true, ltb-true}
 use Rattle.ground.specs.Each.{between, each}
 use Rattle.ground.proofs.Each.{and-left, cond-holds}
 use Rattle.cell.specs.declared.Arms.{Arms}
 use Rattle.cell.specs.declared.Weight.{Weight}
 use Rattle.cell.specs.declared.MarkerKind.{MarkerKind}
 use Rattle.cell.specs.declared.Dir.{Dir}
-use Rattle.cell.specs.OneCell.{horizontal, vertical, Packed}
+use Rattle.cell.specs.declared.Weight.the-variants.{Light}
+use Rattle.cell.specs.OneCell.{weightNumber, horizontal, vertical, Packed}
 use Rattle.cell.proofs.Theorems.{empty-packed}
 use Rattle.glyph.specs.Width.{widthOf}
 use Rattle.glyph.specs.Ranges.{Fixed, space, quote, opening, closing}
 use Rattle.glyph.specs.Fitting.{fitCount, fitPrefix}
 use Rattle.canvas.specs.Cells.{AllPacked}
-use Rattle.canvas.proofs.Kept.{CodePoint, AllCells, KeptByInk}
+use Rattle.canvas.proofs.Kept.{CodePoint, AnyStroke, AllCells, KeptByInk}
 use Rattle.canvas.proofs.Theorems.{packings-kept}
 use Rattle.layout.specs.declared.Tables.{Tables}
 use Rattle.layout.specs.Layout.{glyphSize, glyphValue}
@@ -43,9 +45,9 @@ use Rattle.flow.specs.declared.Head.{Head}
 use Rattle.flow.specs.declared.Head.the-variants as head
 use Rattle.flow.specs.declared.Line.{Line}
 use Rattle.flow.specs.declared.Piece.{Piece}
-use Rattle.flow.specs.declared.Piece.the-variants.{Nothing, Vertical, Horizontal, Run, Stroke, Mark}
+use Rattle.flow.specs.Flow.{corner}
 use Rattle.flow.specs.Pieces.{arrowOr, lineInk, pieceSpots}
-use Rattle.path.specs.Pieces.{pieces, edgeSpots}
+use Rattle.path.specs.Pieces.{edgeSpots}
 use Rattle.frame.specs.declared.Look.{Look}
 use Rattle.frame.specs.declared.Look.the-variants.{Hidden, Dummy, Box, Simple, Blank}
 use Rattle.frame.specs.Frames.{corners, across, down, boxOf, text}
@@ -58,42 +60,13 @@ use Rattle.window.specs.Writes.{Write, tinted, colourTint, inkOn, inkCells, row
 use Rattle.refusals.specs.Accepted.{Keeps}
 use Rattle.runs.specs.Runs.{flushRow}
 use Rattle.picture.specs.Writes.{borderWrites, edgeWrites, edgeLabelGlyphs, writesOfLabel, placedLabelWrites, nodeWrites, subgraphLabelWrites}
-use Rattle.picture.specs.Writes.{borders, edges, placedLabels, nodes, subgraphLabels}
+use Rattle.picture.specs.Writes.{borders, edges, runs, placedLabels, nodes, subgraphLabels}
 use Rattle.picture.specs.Picture.{width, rowPainted}
 use Rattle.runs.proofs.Theorems.{flush-keeps}
-
--- all of a list
-data AllOf {A : Type 0} (P : A → Type 0) : List A → Type 0 where
-  none : AllOf P []
-  more : {a : A} {rest : List A} → P a → AllOf P rest → AllOf P (a ∷ rest)
-
-module _ {A : Type 0} {P : A → Type 0} where
-  all-append : {s t : List A} → AllOf P s → AllOf P t → AllOf P (s ++ t)
-  all-append none q = q
-  all-append (more a p) q = more a (all-append p q)
-
-  all-each : {B : Type 0} (l : List B) (f : B → List A) → ((b : B) → AllOf P (f b)) → AllOf P (each l f)
-  unfolding each
-  all-each [] f h = none
-  all-each (b ∷ l) f h = all-append (h b) (all-each l f h)
-
-  all-map : {B : Type 0} (f : B → A) (l : List B) → ((b : B) → P (f b)) → AllOf P (map f l)
-  all-map f [] h = none
-  all-map f (b ∷ l) h = more (h b) (all-map f l h)
-
-  -- the one that a test picks, or nothing
-  all-when : (test : Bool) {s : List A} → (test ≡ true → AllOf P s) → AllOf P (cond test s [])
-  all-when true p = p refl
-  all-when false p = none
-
-  all-take : (n : ℕ) {l : List A} → AllOf P l → AllOf P (take n l)
-  all-take zero p = none
-  all-take (suc n) none = none
-  all-take (suc n) (more a p) = more a (all-take n p)
-
-  all-getD : (d : A) (l : List A) → ((i : ℕ) → i < length l → P (getD l i d)) → AllOf P l
-  all-getD d [] h = none
-  all-getD d (a ∷ l) h = more (h 0 (omega arith)) (all-getD d l (λ i p. h (suc i) (omega arith)))
+use Rattle.picture.proofs.AllOf.{AllOf, none, more, all-append, all-each, all-numbers, all-map, all-when, all-take, all-getD}
+use Rattle.picture.proofs.Strokes.{MadeOf, along-row, along-column, at-corner, PieceOf, nothing, a-vertical, a-horizontal, a-run, a-mark}
+use Rattle.picture.proofs.Strokes.{PiecesOf, edge-pieces, run-weight}
+use Rattle.picture.proofs.Strokes as piece
 
 -- A glyph is one word.
 pub glyph-size : (image : List ℕ) → tablesOf image .glyphs .size ≡ glyphSize
@@ -108,10 +81,15 @@ CodePoints image = (k : ℕ) → k < tablesOf image .glyphs .count → CodePoint
 pub code-points : (image : List ℕ) → Keeps image → CodePoints image
 code-points image keeps k h = ⊎-elim (λ low. omega arith) (λ high. high .1) (keeps .tables .fields .glyphs k h .value)
 
--- Ink whose glyphs have a property, which the characters that painting itself writes have too.
-module _ (Q : ℕ → Type 0) (fixed : (ch : ℕ) → Fixed ch → Q ch) where
+-- the strokes that are made of a weight have a property
+abbrev pub MadeHave : (Arms → Type 0) → Weight → Type 0
+MadeHave S w = (arms : Arms) → MadeOf w arms → S arms
+
+-- Ink whose strokes and glyphs have a property each: the strokes of every weight that is not 0, and the characters that painting itself writes, among them.
+module _ (S : Arms → Type 0) (Q : ℕ → Type 0)
+    (weighted : (w : Weight) → 0 < weightNumber w → MadeHave S w) (fixed : (ch : ℕ) → Fixed ch → Q ch) where
   data GoodInk : Ink → Type 0 where
-    a-stroke : {arms : Arms} → GoodInk (stroke arms)
+    a-stroke : {arms : Arms} → S arms → GoodInk (stroke arms)
     a-marker : {kind : MarkerKind} {dir : Dir} {dashed : Bool} → GoodInk (marker kind dir dashed)
     a-glyph : {ch : ℕ} → Q ch → GoodInk (glyph ch)
 
@@ -127,23 +105,28 @@ module _ (Q : ℕ → Type 0) (fixed : (ch : ℕ) → Fixed ch → Q ch) where
 
   -- What things make.
 
-  corners-good : (w : Weight) (left right top bottom : ℕ) → AllOf GoodSpot (corners w left right top bottom)
-  corners-good w left right top bottom = more (spot a-stroke) (more (spot a-stroke) (more (spot a-stroke) (more (spot a-stroke) none)))
+  module _ (w : Weight) (have : MadeHave S w) where
+    corner-good : {x y : ℕ} (down right : Bool) → GoodSpot (at x y (stroke (corner w down right)))
+    corner-good down right = spot (a-stroke (have _ (at-corner down right)))
 
-  across-good : (w : Weight) (left right y : ℕ) → AllOf GoodSpot (across w left right y)
-  across-good w left right y = all-map (λ x. at x y (stroke (horizontal w))) (between left right) (λ x. spot a-stroke)
+    corners-good : (left right top bottom : ℕ) → AllOf GoodSpot (corners w left right top bottom)
+    corners-good left right top bottom =
+        more (corner-good true true) (more (corner-good true false) (more (corner-good false true) (more (corner-good false false) none)))
 
-  down-good : (w : Weight) (x top bottom : ℕ) → AllOf GoodSpot (down w x top bottom)
-  down-good w x top bottom = all-map (λ y. at x y (stroke (vertical w))) (between top bottom) (λ y. spot a-stroke)
+    across-good : (left right y : ℕ) → AllOf GoodSpot (across w left right y)
+    across-good left right y = all-map (λ x. at x y (stroke (horizontal w))) (between left right) (λ x. spot (a-stroke (have _ along-row)))
 
-  box-good : (w : Weight) (left right top bottom : ℕ) → AllOf GoodSpot (boxOf w left right top bottom)
-  unfolding boxOf
-  box-good w left right top bottom =
-      all-append
-      (all-append
-      (all-append (all-append (corners-good w left right top bottom) (across-good w left right top)) (across-good w left right bottom))
-      (down-good w left top bottom))
-      (down-good w right top bottom)
+    down-good : (x top bottom : ℕ) → AllOf GoodSpot (down w x top bottom)
+    down-good x top bottom = all-map (λ y. at x y (stroke (vertical w))) (between top bottom) (λ y. spot (a-stroke (have _ along-column)))
+
+    box-good : (left right top bottom : ℕ) → AllOf GoodSpot (boxOf w left right top bottom)
+    unfolding boxOf
+    box-good left right top bottom =
+        all-append
+        (all-append
+        (all-append (all-append (corners-good left right top bottom) (across-good left right top)) (across-good left right bottom))
+        (down-good left top bottom))
+        (down-good right top bottom)
 
   text-good : (ranges : List ℕ) (x y : ℕ) {glyphs : List ℕ} → AllOf Q glyphs → AllOf GoodSpot (text ranges x y glyphs)
   unfolding text
@@ -161,8 +144,8 @@ module _ (Q : ℕ → Type 0) (fixed : (ch : ℕ) → Fixed ch → Q ch) where
   fitting-good ranges columns {glyphs} p = all-take (fitCount glyphs ranges columns) p
 
   border-good : (s : Subgraph) → AllOf GoodSpot (borderSpots s)
-  unfolding borderSpots
-  border-good s = all-when (hasBorder s) (λ e. box-good _ _ _ _ _)
+  unfolding borderSpots hasBorder
+  border-good s = all-when (hasBorder s) (λ e. box-good (s .border) (weighted (s .border) (ltb-true _ _ (and-left _ _ e))) _ _ _ _)
 
   subgraph-label-good : (ranges : List ℕ) (s : Subgraph) {glyphs : List ℕ} → AllOf Q glyphs → AllOf GoodSpot (subgraphLabelSpots ranges s glyphs)
   unfolding subgraphLabelSpots
@@ -172,21 +155,27 @@ module _ (Q : ℕ → Type 0) (fixed : (ch : ℕ) → Fixed ch → Q ch) where
   arrow-good dashed head.None n p = p
   arrow-good dashed (head.At place dir) n p = cond-holds GoodInk (eqb place n) a-marker p
 
-  line-good : (dashed : Bool) (l : Line) (arms : Arms) (n : ℕ) → GoodInk (lineInk dashed l arms n)
-  line-good dashed l arms n = arrow-good dashed (l .winner) n (arrow-good dashed (l .other) n a-stroke)
+  line-good : (dashed : Bool) (l : Line) (arms : Arms) (n : ℕ) → S arms → GoodInk (lineInk dashed l arms n)
+  line-good dashed l arms n s = arrow-good dashed (l .winner) n (arrow-good dashed (l .other) n (a-stroke s))
 
-  piece-good : (e : Edge) (p : Piece) → AllOf GoodSpot (pieceSpots e p)
-  unfolding pieceSpots
-  piece-good e Nothing = none
-  piece-good e (Vertical l) = all-map _ (between (l .from) (l .to)) (λ y. spot (line-good (e .reversed) l _ y))
-  piece-good e (Horizontal l) = all-map _ (between (l .from) (l .to)) (λ x. spot (line-good (e .reversed) l _ x))
-  piece-good e (Run row first last) = none
-  piece-good e (Stroke x y arms) = more (spot a-stroke) none
-  piece-good e (Mark x y dir) = more (spot a-marker) none
+  module _ (e : Edge) (have : MadeHave S (e .weight)) where
+    piece-good : {p : Piece} → PieceOf (e .weight) p → AllOf GoodSpot (pieceSpots e p)
+    unfolding pieceSpots
+    piece-good nothing = none
+    piece-good (a-vertical {l}) = all-map _ (between (l .from) (l .to)) (λ y. spot (line-good (e .reversed) l _ y (have _ along-column)))
+    piece-good (a-horizontal {l}) = all-map _ (between (l .from) (l .to)) (λ x. spot (line-good (e .reversed) l _ x (have _ along-row)))
+    piece-good a-run = none
+    piece-good (piece.a-stroke made) = more (spot (a-stroke (have _ made))) none
+    piece-good a-mark = more (spot a-marker) none
 
-  edge-good : (e : Edge) (points : List ℕ) → AllOf GoodSpot (edgeSpots e points)
-  unfolding edgeSpots
-  edge-good e points = all-each (pieces e points) (pieceSpots e) (piece-good e)
+    pieces-good : {ps : List Piece} → PiecesOf (e .weight) ps → AllOf GoodSpot (each ps (pieceSpots e))
+    unfolding each
+    pieces-good none = none
+    pieces-good (more p rest) = all-append (piece-good p) (pieces-good rest)
+
+    edge-good : (points : List ℕ) → AllOf GoodSpot (edgeSpots e points)
+    unfolding edgeSpots
+    edge-good points = pieces-good (edge-pieces e points)
 
   loop-good : (l : SelfLoop) → AllOf GoodSpot (loopSpots l)
   loop-good loop.None = none
@@ -202,7 +191,7 @@ module _ (Q : ℕ → Type 0) (fixed : (ch : ℕ) → Fixed ch → Q ch) where
   look-good ranges n Hidden p = none
   look-good ranges n Dummy p = more (spot a-marker) none
   look-good ranges n Box p =
-      all-append (all-append (box-good _ _ _ _ _) (text-good ranges _ _ (fitting-good ranges _ p))) (loop-good (n .«self_loop»))
+      all-append (all-append (box-good Light (weighted Light (omega arith)) _ _ _ _) (text-good ranges _ _ (fitting-good ranges _ p))) (loop-good (n .«self_loop»))
   look-good ranges n Simple p = all-append (simple-good ranges n p) (loop-good (n .«self_loop»))
   look-good ranges n Blank p = loop-good (n .«self_loop»)
 
@@ -216,10 +205,10 @@ module _ (Q : ℕ → Type 0) (fixed : (ch : ℕ) → Fixed ch → Q ch) where
       (λ e. text-good ranges _ _ (more (fixed 0x22 quote) (all-append h (more (fixed 0x22 quote) none))))
 
   -- Good writes keep what all ink keeps.
-  module _ {ranges : List ℕ} {P : List ℕ → Type 0} (keeps : KeptByInk ranges Q P) where
+  module _ {ranges : List ℕ} {P : List ℕ → Type 0} (keeps : KeptByInk ranges S Q P) where
     ink-keeps : (x : ℕ) {i : Ink} (row : List ℕ) → GoodInk i → P row → P (inkOn ranges x i row)
     unfolding inkOn
-    ink-keeps x row a-stroke p = keeps .strokes row x _ p
+    ink-keeps x row (a-stroke s) p = keeps .strokes row x _ s p
     ink-keeps x row a-marker p = keeps .markers row x _ _ _ p
     ink-keeps x row (a-glyph h) p = keeps .glyphs row x _ h p
 
@@ -237,8 +226,9 @@ module _ (Q : ℕ → Type 0) (fixed : (ch : ℕ) → Fixed ch → Q ch) where
     unfolding inkRow
     row-keeps y row good p = after-keeps y (row .cells) good p
 
-  -- Of an image whose glyphs have the property.
+  -- Of an image whose edges' strokes and whose glyphs have the properties.
   module _ (image : List ℕ) (ts : Tables) (one : ts .glyphs .size ≡ glyphSize)
+      (own : (k : ℕ) → k < ts .edges .count → MadeHave S (edgeAt image (ts .edges) k .weight))
       (good : (k : ℕ) → k < ts .glyphs .count → Q (field image (ts .glyphs) k glyphValue)) where
     abbrev ranges : List ℕ
     ranges = rangesOf image ts
@@ -273,7 +263,7 @@ module _ (Q : ℕ → Type 0) (fixed : (ch : ℕ) → Fixed ch → Q ch) where
 
     edges-good : AllOf GoodWrite (edges image ts)
     unfolding edgeWrites
-    edges-good = all-each _ _ (λ k. tinted-good _ (edge-good _ _))
+    edges-good = all-numbers 0 _ _ (λ k h. tinted-good _ (edge-good _ (own k (omega arith)) _))
 
     of-label-good : (p : PlacedLabel) (e : Edge) → AllOf GoodWrite (writesOfLabel image ts p e)
     of-label-good p e = tinted-good (colourTint (e .«label_colour»)) (placed-good _ ranges p (e .label) (label-good (e .label)))
@@ -291,15 +281,26 @@ module _ (Q : ℕ → Type 0) (fixed : (ch : ℕ) → Fixed ch → Q ch) where
     subgraph-labels-good = all-each _ _ (λ k. tinted-good _ (subgraph-label-good ranges _ (glyphs-good _)))
 
     -- What all ink keeps, and an empty row has, a row of the picture has.
-    pub row-has : (P : List ℕ → Type 0) → KeptByInk ranges Q P → P (replicate (width image) 0) → (y : ℕ) → P (rowPainted image ts y .cells)
+    pub row-has-of : (P : List ℕ → Type 0) → KeptByInk ranges S Q P → P (replicate (width image) 0) → (y : ℕ) → P (rowPainted image ts y .cells)
     unfolding rowPainted flushRow
-    row-has P keeps empty y =
+    row-has-of P keeps empty y =
         row-keeps keeps y _ subgraph-labels-good
         (row-keeps keeps y _ nodes-good
         (row-keeps keeps y _ placed-labels-good
-        (flush-keeps ranges P (keeps .strokes) _ y _
+        (flush-keeps ranges P (runs image ts) y
+        (λ r x h. keeps .strokes r x _ (weighted _ (run-weight image ts y x h) _ along-row)) _
         (row-keeps keeps y _ edges-good
         (row-keeps keeps y _ borders-good empty)))))
+
+-- The same where the strokes may be any.
+pub row-has :
+    (Q : ℕ → Type 0) → ((ch : ℕ) → Fixed ch → Q ch) →
+    (image : List ℕ) (ts : Tables) → ts .glyphs .size ≡ glyphSize →
+    ((k : ℕ) → k < ts .glyphs .count → Q (field image (ts .glyphs) k glyphValue)) →
+    (P : List ℕ → Type 0) → KeptByInk (rangesOf image ts) AnyStroke Q P → P (replicate (width image) 0) →
+    (y : ℕ) → P (rowPainted image ts y .cells)
+row-has Q fixed image ts one good P keeps empty y =
+    row-has-of AnyStroke Q (λ w h arms made. tt) fixed image ts one (λ k h arms made. tt) good P keeps empty y
 
 -- a property that the empty cell has, every cell of an empty row has
 pub empty-row : (C : ℕ → Type 0) → C 0 → (n : ℕ) → AllCells C (replicate n 0)

@@ -16,7 +16,7 @@ use Rattle.cell.proofs.Theorems.{read-stroked, read-marked, stroke-text, marker
 use Rattle.glyph.specs.Ranges.{Fixed}
 use Rattle.glyph.specs.Ranges as fixed
 use Rattle.canvas.specs.Row.{space}
-use Rattle.canvas.proofs.Kept.{CodePoint, AllCells, KeptByCell, at-holds, cells-kept}
+use Rattle.canvas.proofs.Kept.{CodePoint, AnyStroke, AllCells, KeptByCell, at-holds, cells-kept}
 use Rattle.layout.specs.Layout.{glyphValue}
 use Rattle.layout.specs.Tables.{field, tablesOf}
 use Rattle.things.specs.Things.{rangesOf}
@@ -47,13 +47,13 @@ module _ (Q : ℕ → Type 0) where
   }
 
   -- Ink keeps that, where its glyphs have the property.
-  pub letters-kept : Letter space → KeptByCell Letter Lettered
+  pub letters-kept : Letter space → KeptByCell AnyStroke Letter Lettered
   unfolding Valid pack
   letters-kept blank = record {
     empty = pack-lettered Empty tt (λ ch e. let z : _≡_ {A = ℕ} 0 1 = cc in absurd (omega arith));
     continuation = pack-lettered Continuation tt (λ ch e. let z : _≡_ {A = ℕ} 0 1 = cc in absurd (omega arith));
     blank = blank;
-    strokes = λ new w h. record {
+    strokes = λ new w s h. record {
       packed = stroke-packed new w (h .packed);
       letter = λ ch e. h .letter ch (stroke-text (read w) new ch (sym (read-stroked new w (h .packed)) ∙ e));
     };

@@ -5,6 +5,8 @@ pub mod Rows
 pub mod Laws
 pub mod Bands
 pub mod Answers
+pub mod AllOf
+pub mod Strokes
 pub mod Cells
 pub mod Characters
 pub mod ListFree

@@ -22,6 +22,22 @@ use Rattle.whole.proofs.Rows.{paired-of}
 abbrev one : Bool → ℕ
 one test = cond test 1 0
 
+-- Cells after one that is a wide lead or not.
+module _ (ranges : List ℕ) where
+  pub record PairedFrom (before : Bool) (row : List ℕ) : Type 0 where
+    pub start : cont row 0 ≡ before
+    pub pairs : (k : ℕ) → cont row (suc k) ≡ lead ranges row k
+
+  -- nothing stands before a row
+  pub from-start : (row : List ℕ) → Whole ranges row → PairedFrom false row
+  from-start row whole =
+      let paired = paired-of ranges row whole in
+      record { start = paired .start; pairs = λ k. let e : suc k ≡ k + 1 = omega arith in ap (cont row) e ∙ paired .pairs k }
+
+  -- the first cell stands before the others
+  pub from-next : (before : Bool) (cell : ℕ) (row : List ℕ) → PairedFrom before (cell ∷ row) → PairedFrom (lead ranges (cell ∷ row) 0) row
+  from-next before cell row p = record { start = p .pairs 0; pairs = λ k. p .pairs (suc k) }
+
 module _ (ranges : List ℕ) (narrow : widthOf ranges space ≡ 1) where
   -- a cell has one column, one more if it is a wide lead, and one less if it is a continuation
   cell-columns :
@@ -38,31 +54,20 @@ module _ (ranges : List ℕ) (narrow : widthOf ranges space ≡ 1) where
   cell-columns (Stroke arms) shown = refl
   cell-columns (Marker kind dir dashed) shown = refl
 
-  -- cells after one that is a wide lead or not
-  record PairedFrom (before : Bool) (row : List ℕ) : Type 0 where
-    pub start : cont row 0 ≡ before
-    pub pairs : (k : ℕ) → cont row (suc k) ≡ lead ranges row k
-
   columns-from :
-      (k : ℕ) (row : List ℕ) (before : Bool) → k ≤ length row → PairedFrom before row → Shown ranges row →
+      (k : ℕ) (row : List ℕ) (before : Bool) → k ≤ length row → PairedFrom ranges before row → Shown ranges row →
       columnsOfCells ranges (take k row) + one before ≡ k + one (cont row k)
   unfolding columnsOfCells isWideLead isContinuation
   columns-from zero row before h p shown = rw (p .start)
   columns-from (suc k) [] before h p shown = absurd (omega arith)
   columns-from (suc k) (cell ∷ row) before h p shown =
-      let after : PairedFrom (lead ranges (cell ∷ row) 0) row = record { start = p .pairs 0; pairs = λ j. p .pairs (suc j) } in
-      let rest = columns-from k row (lead ranges (cell ∷ row) 0) (omega arith) after (λ x. shown (suc x)) in
+      let rest = columns-from k row (lead ranges (cell ∷ row) 0) (omega arith) (from-next ranges before cell row p) (λ x. shown (suc x)) in
       rw (sym (p .start)) (omega (arith, rest, cell-columns (read cell) (shown 0)))
 
   module _ (row : List ℕ) (whole : Whole ranges row) (shown : Shown ranges row) where
-    from-start : PairedFrom false row
-    from-start =
-        let paired = paired-of ranges row whole in
-        record { start = paired .start; pairs = λ k. let e : suc k ≡ k + 1 = omega arith in ap (cont row) e ∙ paired .pairs k }
-
     -- What is written for the cells before a column ends there, or one column on where that column is the second of a wide character.
     pub columns-before : (x : ℕ) → x ≤ length row → columnsOfCells ranges (take x row) ≡ x + one (cont row x)
-    columns-before x h = omega (arith, columns-from x row false h from-start shown)
+    columns-before x h = omega (arith, columns-from x row false h (from-start ranges row whole) shown)
 
     pub columns-all : columnsOfCells ranges row ≡ length row
     columns-all =

@@ -22,7 +22,7 @@ use Rattle.glyph.proofs.Theorems.{width-bound}
 use Rattle.canvas.specs.Row.{space, leadParts, continuationParts, isWideLead, isContinuation, put}
 use Rattle.canvas.specs.Row.{strokeRow, markerRow, letterRow, wideRow, textRow}
 use Rattle.canvas.specs.Cells.{AllPacked}
-use Rattle.canvas.proofs.Kept.{CodePoint, AllCells, KeptByInk, KeptByCell, at-holds, cells-kept}
+use Rattle.canvas.proofs.Kept.{CodePoint, AnyStroke, AllCells, KeptByInk, KeptByCell, at-holds, cells-kept}
 use Rattle.canvas.proofs.Laws.{put-equal, text-none}
 use Rattle.canvas.proofs.Theorems.{put-length, put-off, packings-kept}
 use Rattle.runs.proofs.Steps.{zero-anywhere}
@@ -223,12 +223,12 @@ empty-pairs ranges n = record {
 }
 
 module _ (ranges : List ℕ) (narrow : widthOf ranges space ≡ 1) where
-  pub pairs-kept : KeptByInk ranges CodePoint (PackedPairs ranges)
+  pub pairs-kept : KeptByInk ranges AnyStroke CodePoint (PackedPairs ranges)
   pairs-kept =
       let packings = packings-kept ranges in
       record {
-        strokes = λ row x arms s. record {
-          packed = packings .strokes row x arms (s .packed);
+        strokes = λ row x arms any s. record {
+          packed = packings .strokes row x arms any (s .packed);
           paired = stroke-paired ranges narrow row (s .packed) (s .paired) x arms;
         };
         markers = λ row x kind dir dashed s. record {
@@ -251,13 +251,13 @@ abbrev pub AllTakeColumns : List ℕ → List ℕ → Type 0
 AllTakeColumns ranges row = AllCells (Lettered (TakesColumn ranges)) row
 
 module _ (ranges : List ℕ) (narrow : widthOf ranges space ≡ 1) where
-  cell-takes : KeptByCell (Letter (TakesColumn ranges)) (Lettered (TakesColumn ranges))
+  cell-takes : KeptByCell AnyStroke (Letter (TakesColumn ranges)) (Lettered (TakesColumn ranges))
   cell-takes = letters-kept (TakesColumn ranges) (omega arith, omega arith)
 
   pub empty-takes : (n : ℕ) → AllTakeColumns ranges (replicate n 0)
   empty-takes n = empty-row (Lettered (TakesColumn ranges)) (cell-takes .empty) n
 
-  pub takes-kept : KeptByInk ranges CodePoint (AllTakeColumns ranges)
+  pub takes-kept : KeptByInk ranges AnyStroke CodePoint (AllTakeColumns ranges)
   takes-kept =
       let letters = cells-kept cell-takes ranges in
       record {

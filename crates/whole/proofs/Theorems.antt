@@ -8,7 +8,7 @@ use Rattle.glyph.specs.Width.{widthOf}
 use Rattle.glyph.specs.Ranges as fixed
 use Rattle.layout.specs.Tables.{tablesOf}
 use Rattle.canvas.specs.Row.{space, isContinuation}
-use Rattle.canvas.proofs.Kept.{CodePoint, KeptByInk}
+use Rattle.canvas.proofs.Kept.{CodePoint, AnyStroke, KeptByInk}
 use Rattle.refusals.specs.declared.Verdict.the-variants.{Passed}
 use Rattle.refusals.specs.Rules.{checked}
 use Rattle.refusals.proofs.Theorems.{accepted-iff, accepted-widths}
@@ -27,7 +27,7 @@ use Rattle.whole.proofs.Columns.{columns-before, columns-all}
 -- what all ink keeps, and an empty row has, each row of its picture has
 row-of-ink :
     (image : List ℕ) → CodePoints image → (P : List ℕ → Type 0) →
-    KeptByInk (rangesIn image) CodePoint P → P (replicate (width image) 0) → (y : ℕ) → P (pictureRow image y .cells)
+    KeptByInk (rangesIn image) AnyStroke CodePoint P → P (replicate (width image) 0) → (y : ℕ) → P (pictureRow image y .cells)
 row-of-ink image good P keeps empty y = row-has CodePoint fixed-code-point image (tablesOf image) (glyph-size image) good P keeps empty y
 
 -- Its wide characters are whole in every row of its picture.
@@ -90,10 +90,10 @@ columns-until image accepted y x h =
 
 -- where it passes, the image is accepted, and row i of the band is a row of its picture
 module _ (image : List ℕ) (first rows : ℕ) (cells scratch : List ℕ) (passed : painted image first rows cells scratch .verdict ≡ Passed) where
-  accepted-plain : checked image .code ≡ 0
+  pub accepted-plain : checked image .code ≡ 0
   accepted-plain = passed-accepted image first rows _ _ (paint-refuses-as-check image first rows cells scratch) passed
 
-  row-plain : (i : ℕ) → i < rows → bandRow image i (painted image first rows cells scratch .cells) ≡ pictureRow image (first + i) .cells
+  pub row-plain : (i : ℕ) → i < rows → bandRow image i (painted image first rows cells scratch .cells) ≡ pictureRow image (first + i) .cells
   unfolding painted
   row-plain i h = row-of-band image first rows i _ cells passed h
 
@@ -119,10 +119,10 @@ band-columns image first rows cells scratch passed i h =
 
 module _ (image : List ℕ) (first rows : ℕ) (cells colours stamps scratch : List ℕ)
     (passed : paintedColoured image first rows cells colours stamps scratch .verdict ≡ Passed) where
-  accepted-coloured : checked image .code ≡ 0
+  pub accepted-coloured : checked image .code ≡ 0
   accepted-coloured = passed-accepted image first rows _ _ (paint-refuses-as-check-coloured image first rows cells colours stamps scratch) passed
 
-  row-coloured : (i : ℕ) → i < rows → bandRow image i (paintedColoured image first rows cells colours stamps scratch .cells) ≡ pictureRow image (first + i) .cells
+  pub row-coloured : (i : ℕ) → i < rows → bandRow image i (paintedColoured image first rows cells colours stamps scratch .cells) ≡ pictureRow image (first + i) .cells
   unfolding paintedColoured
   row-coloured i h = row-of-band image first rows i _ cells passed h
 
