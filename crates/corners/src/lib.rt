@@ -21,7 +21,7 @@ fn corner_below(image: &[u32], ts: Tables, k: usize) -> bool
     }
     let e = image::edge_at(image, edges, k);
     let path = e.path;
-    path::corners::corner_below(e, image::points_of(image, ts.points, path))
+    path::below::corner_below(e, image::points_of(image, ts.points, path))
 }
 
 // Code 6: the first word of the first such edge.

@@ -72,7 +72,7 @@ fn low_leg(e: Edge, offset: u32, points: &[u32]) -> LowCorner
     let mut k: usize = 0;
     while k <= count {
         let leg = leg_of(e, points, k);
-        if path::corners::leg_below(e, offset, leg) {
+        if path::below::leg_below(e, offset, leg) {
             return corner_at(axis, offset, k, leg);
         }
         k += 1;

@@ -1,4 +1,4 @@
 // The way of an edge: the rows of a window that its pieces touch, its runs there, and whether one of its corners lies below 0.
-pub mod corners;
+pub mod below;
 pub mod legs;
 pub mod reach;

@@ -1,8 +1,8 @@
 -- `corner_below` says whether a corner of an edge lies below 0.
 use borrow.Author.Needs.{needs}
 use Rattle.path.proofs.Laws.{none-below, legs-below}
-use Rattle.path.proofs.corners.corner_below.Statement.{statement}
-use Rattle.path.proofs.corners.corner_below.Tie as tie
+use Rattle.path.proofs.below.corner_below.Statement.{statement}
+use Rattle.path.proofs.below.corner_below.Tie as tie
 
 pub corner-below-spec : {M : Type 1} → statement M
 corner-below-spec =

@@ -1,8 +1,8 @@
 -- `leg_below` says whether a leg has a corner below 0.
 use borrow.Author.Needs.{needs}
 use Rattle.path.proofs.Laws.{straight-y, straight-x, bent-y, bent-x}
-use Rattle.path.proofs.corners.leg_below.Statement.{statement}
-use Rattle.path.proofs.corners.leg_below.Tie as tie
+use Rattle.path.proofs.below.leg_below.Statement.{statement}
+use Rattle.path.proofs.below.leg_below.Tie as tie
 
 pub leg-below-spec : {M : Type 1} → statement M
 leg-below-spec =

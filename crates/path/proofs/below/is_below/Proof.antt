@@ -1,8 +1,8 @@
 -- `is_below` tells a corner below 0.
 use borrow.Author.Needs.{needs}
 use Rattle.path.specs.Corners.{isBelow}
-use Rattle.path.proofs.corners.is_below.Statement.{statement}
-use Rattle.path.proofs.corners.is_below.Tie as tie
+use Rattle.path.proofs.below.is_below.Statement.{statement}
+use Rattle.path.proofs.below.is_below.Tie as tie
 
 returns : tie.Need-returns
 unfolding isBelow

@@ -3,8 +3,8 @@
 use borrow.Author.Needs.{needs}
 use Prim.Native.Nat.{_-_}
 use Rattle.path.proofs.Multi.{LookedTo, look-begins, look-finds, look-turns, look-ends}
-use Rattle.path.proofs.corners.multi_below.Statement.{statement}
-use Rattle.path.proofs.corners.multi_below.Tie as tie
+use Rattle.path.proofs.below.multi_below.Statement.{statement}
+use Rattle.path.proofs.below.multi_below.Tie as tie
 
 abbrev Inv-loop : tie.InvT-loop
 Inv-loop e offset points count a₀ k₀ a k = LookedTo e offset points a k
