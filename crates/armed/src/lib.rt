@@ -1,0 +1,1 @@
+// No picture holds a stroke without arms: definitions and theorems, no code.
