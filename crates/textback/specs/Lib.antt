@@ -1,0 +1,3 @@
+-- A text read back, and the columns that it takes.
+pub mod ReadBack
+pub mod Columns
