@@ -1,14 +1,16 @@
 /*
- * pivotdawn.h: check a sheet image, and paint any band of its rows.
+ * pivotdawn.h: check a sheet image, paint any band of its rows, and write it as text.
  *
  * The archive that `rt staticlib pivotdawn` writes, target/staticlib/libpivotdawn.a, holds
- * the three functions declared at the end. Plain C99; C++ may include it too.
+ * the five functions declared at the end. Plain C99; C++ may include it too.
  *
  *   1. Get the image into memory, as words.
  *   2. Ask pivotdawn_check, once. It answers PIVOTDAWN_ACCEPTED, or why not and where.
  *   3. Allocate cells for as many rows as you want at a time, and scratch:
  *      pivotdawn_plane_words and pivotdawn_scratch_words say how many words.
- *   4. Call pivotdawn_paint for each band, and read the cells.
+ *   4. Call pivotdawn_paint for each band, and read the cells. Or have each band as text:
+ *      allocate as many bytes as pivotdawn_text_bytes says, call pivotdawn_paint_text, and
+ *      write the bytes out.
  *
  * Nothing is allocated, opened, printed or kept by a call. All memory is the caller's, and
  * is the caller's again when the call returns.
@@ -28,13 +30,13 @@
  * No call can see whether a pointer is good. Of each pointer with its length:
  *
  *   - It is not null, is aligned for its type (uint32_t, uint64_t), and has as many words
- *     behind it as its length says. Where the length is 0 give a good pointer all the same,
- *     to any word; it is not followed.
+ *     behind it as its length says; `out` as many bytes. Where the length is 0 give a good
+ *     pointer all the same, to any word; it is not followed.
  *   - No two of one call overlap, not even in part, and not with the image.
  *   - Until the call returns, nobody else writes the image, or reads or writes the others.
  *
  * What stands in the buffers before a call is of no matter. They may be longer than needed;
- * words beyond those needed are left as they were.
+ * words beyond those needed are left as they were, and so are bytes beyond those written.
  *
  * Threads and stack
  * -----------------
@@ -93,7 +95,9 @@ enum pivotdawn_code {
     /* the band goes past the last row of the sheet. place 0 */
     PIVOTDAWN_BAND_OUTSIDE = 11,
     /* a buffer is too short. place: which, an enum pivotdawn_buffer; the first such one */
-    PIVOTDAWN_SHORT_BUFFER = 12
+    PIVOTDAWN_SHORT_BUFFER = 12,
+    /* the output has fewer bytes than the room that the call asks for. place 0 */
+    PIVOTDAWN_SHORT_OUTPUT = 20
 };
 
 /* The places of PIVOTDAWN_SHORT_BUFFER. */
@@ -108,6 +112,7 @@ enum pivotdawn_buffer {
 enum pivotdawn_answer {
     PIVOTDAWN_PLACE = 0,       /* of every call */
     PIVOTDAWN_RUNS = 1,        /* of pivotdawn_check alone */
+    PIVOTDAWN_BYTES = 1,       /* of the two calls for text alone */
     PIVOTDAWN_ANSWER_WORDS = 2 /* as many as are ever written */
 };
 
@@ -149,7 +154,8 @@ enum pivotdawn_header {
 
 /*
  * Room. Only of an image that pivotdawn_check accepts, and of rows that it has: then no
- * plane is over 33,553,408 words, and no scratch over 134,144.
+ * plane is over 33,553,408 words, no scratch over 134,144, no text over 134,246,399 bytes,
+ * and no coloured text over 771,892,219.
  */
 
 /* words of the cells for a band of so many rows, and of the colours and of the stamps */
@@ -164,8 +170,22 @@ static inline size_t pivotdawn_scratch_words(const uint32_t *image)
     return 8 * (size_t)image[PIVOTDAWN_RUN_CAPACITY] + image[PIVOTDAWN_ELEMENTS];
 }
 
+/* bytes of the output for the text of a band of so many rows: four for each cell, and a line
+   feed for each row */
+static inline size_t pivotdawn_text_bytes(const uint32_t *image, size_t rows)
+{
+    return rows * (4 * (size_t)image[PIVOTDAWN_WIDTH] + 1);
+}
+
+/* the same for the coloured text: a colour too for each cell, and colour 0 again for each row */
+static inline size_t pivotdawn_coloured_text_bytes(const uint32_t *image, size_t rows)
+{
+    return rows * (23 * (size_t)image[PIVOTDAWN_WIDTH] + 5);
+}
+
 /*
- * A cell says what stands there, not which character shows it. The word of column x in row y
+ * A cell says what stands there, not which character shows it; docs/TEXT.md has the
+ * characters that the two calls for text choose. The word of column x in row y
  * of a band, both counted from 0, is cells[y * width + x].
  */
 
@@ -267,6 +287,51 @@ uint32_t pivotdawn_paint_coloured(const uint32_t *image, size_t words, size_t fi
                                   uint32_t *stamps, size_t stamp_words,
                                   uint32_t *scratch, size_t scratch_words,
                                   uint64_t *answer, size_t answer_words);
+
+/*
+ * Paints the rows as pivotdawn_paint does, and writes them as text in UTF-8. Codes 0 to 13,
+ * as pivotdawn_paint answers them; then 20, tried last, and before anything is painted.
+ *
+ * cells, scratch: as of pivotdawn_paint, and afterwards too.
+ * out: pivotdawn_text_bytes of the rows. Written, it begins with the text of those rows, one
+ * after the other, each ended by one line feed: for an empty cell a space, for text its
+ * character, for a continuation nothing, for a stroke a Box Drawing character (2500 to 257F),
+ * for an arrow 2191, 2193, 2190 or 2192, for a self-loop 21BA, for a dummy 25CD. No 0 byte
+ * ends it: its length is answered.
+ * answer[PIVOTDAWN_PLACE]: the place; 0 where written.
+ * answer[PIVOTDAWN_BYTES]: how many bytes were written; 0 where refused.
+ *
+ * Refused, no word of cells and scratch and no byte of out changes. However a sheet is cut
+ * into bands, its text is the same.
+ */
+uint32_t pivotdawn_paint_text(const uint32_t *image, size_t words, size_t first, size_t rows,
+                              uint32_t *cells, size_t cell_words,
+                              uint32_t *scratch, size_t scratch_words,
+                              uint8_t *out, size_t out_bytes,
+                              uint64_t *answer, size_t answer_words);
+
+/*
+ * The same with colours, by ECMA-48 sequences. Without them the text is that of
+ * pivotdawn_paint_text.
+ *
+ * cells, colours, stamps, scratch: as of pivotdawn_paint_coloured, and afterwards too.
+ * out: pivotdawn_coloured_text_bytes of the rows. Each row starts and ends at colour 0, and a
+ * sequence stands only where the colour of a cell that is written differs from the one before:
+ *
+ *   colour 0, and no other   ESC[0m             the reset
+ *   1 to 7                   ESC[3Nm            red, green, yellow, blue, magenta, cyan, white
+ *   8 to 255                 ESC[38;5;Nm        that one of 256
+ *   from 256 on              ESC[38;2;R;G;Bm    its low 24 bits as red, green and blue
+ *
+ * Refused, no word of cells, colours, stamps and scratch and no byte of out changes.
+ */
+uint32_t pivotdawn_paint_text_coloured(const uint32_t *image, size_t words, size_t first, size_t rows,
+                                       uint32_t *cells, size_t cell_words,
+                                       uint32_t *colours, size_t colour_words,
+                                       uint32_t *stamps, size_t stamp_words,
+                                       uint32_t *scratch, size_t scratch_words,
+                                       uint8_t *out, size_t out_bytes,
+                                       uint64_t *answer, size_t answer_words);
 
 #ifdef __cplusplus
 }

@@ -1,6 +1,6 @@
 /*
  * card FILE [--colour]: shows a sheet image as text in UTF-8, painted in bands of eight rows
- * as a small display would do it. With --colour the coloured columns of each row follow.
+ * as a small display would do it. With --colour it is shown in its colours.
  *
  * Exit status: 0 shown; 1 the image is refused; 2 a bad call, a file that cannot be read or is
  * no file of words, no memory, or output that cannot be written.
@@ -28,6 +28,8 @@ struct sheet {
     uint32_t *stamps;
     size_t scratch_words;
     uint32_t *scratch;
+    size_t out_bytes;
+    uint8_t *out; /* the text of a band */
 };
 
 static int not_tried(const char *path, const char *why)
@@ -53,7 +55,16 @@ static const char *const reasons[] = {
     [PIVOTDAWN_FEW_RUNS] = "the run capacity is below the number of runs",
     [PIVOTDAWN_BAND_OUTSIDE] = "the band leaves the sheet",
     [PIVOTDAWN_SHORT_BUFFER] = "a buffer is too short",
+    [PIVOTDAWN_SHORT_OUTPUT] = "the output is too short",
 };
+
+/* Of a code that there is. */
+static const char *reason_of(uint32_t code)
+{
+    const char *reason = code < sizeof reasons / sizeof reasons[0] ? reasons[code] : NULL;
+
+    return reason != NULL ? reason : "for a reason unknown";
+}
 
 static const char *const buffers[] = {
     [PIVOTDAWN_CELLS] = "the cells",
@@ -68,6 +79,7 @@ static void tell_place(uint32_t code, uint64_t place)
     switch (code) {
     case PIVOTDAWN_NO_HEADER:
     case PIVOTDAWN_BAND_OUTSIDE:
+    case PIVOTDAWN_SHORT_OUTPUT:
         break;
     case PIVOTDAWN_WRONG_LENGTH:
         fprintf(stderr, " (%llu words are wanted)", (unsigned long long)place);
@@ -82,9 +94,7 @@ static void tell_place(uint32_t code, uint64_t place)
 
 static int refused(const struct sheet *sheet, uint32_t code, uint64_t place)
 {
-    const char *reason = code < sizeof reasons / sizeof reasons[0] ? reasons[code] : "for a reason unknown";
-
-    fprintf(stderr, "card: %s: refused, code %lu: %s", sheet->path, (unsigned long)code, reason);
+    fprintf(stderr, "card: %s: refused, code %lu: %s", sheet->path, (unsigned long)code, reason_of(code));
     tell_place(code, place);
     fputc('\n', stderr);
     return REFUSED;
@@ -165,187 +175,59 @@ static int lend_buffers(struct sheet *sheet)
 {
     sheet->plane_words = pivotdawn_plane_words(sheet->image, BAND_ROWS);
     sheet->scratch_words = pivotdawn_scratch_words(sheet->image);
+    sheet->out_bytes = sheet->coloured ? pivotdawn_coloured_text_bytes(sheet->image, BAND_ROWS)
+                                       : pivotdawn_text_bytes(sheet->image, BAND_ROWS);
     sheet->cells = room_for(sheet->plane_words);
     sheet->scratch = room_for(sheet->scratch_words);
+    sheet->out = malloc(sheet->out_bytes);
     if (sheet->coloured) {
         sheet->colours = room_for(sheet->plane_words);
         sheet->stamps = room_for(sheet->plane_words);
     }
-    if (sheet->cells == NULL || sheet->scratch == NULL ||
+    if (sheet->cells == NULL || sheet->scratch == NULL || sheet->out == NULL ||
         (sheet->coloured && (sheet->colours == NULL || sheet->stamps == NULL)))
         return not_tried(sheet->path, "no memory to paint it");
     return SHOWN;
 }
 
-static int paint_band(const struct sheet *sheet, size_t first, size_t rows)
+/* Has a band as text; how many bytes it has goes into `bytes`. */
+static int write_band(const struct sheet *sheet, size_t first, size_t rows, size_t *bytes)
 {
-    uint64_t place = 0;
+    uint64_t answer[PIVOTDAWN_ANSWER_WORDS];
     uint32_t code;
 
     if (sheet->coloured)
-        code = pivotdawn_paint_coloured(sheet->image, sheet->words, first, rows,
-                                        sheet->cells, sheet->plane_words,
-                                        sheet->colours, sheet->plane_words,
-                                        sheet->stamps, sheet->plane_words,
-                                        sheet->scratch, sheet->scratch_words, &place, 1);
+        code = pivotdawn_paint_text_coloured(sheet->image, sheet->words, first, rows,
+                                             sheet->cells, sheet->plane_words,
+                                             sheet->colours, sheet->plane_words,
+                                             sheet->stamps, sheet->plane_words,
+                                             sheet->scratch, sheet->scratch_words,
+                                             sheet->out, sheet->out_bytes,
+                                             answer, PIVOTDAWN_ANSWER_WORDS);
     else
-        code = pivotdawn_paint(sheet->image, sheet->words, first, rows,
-                               sheet->cells, sheet->plane_words,
-                               sheet->scratch, sheet->scratch_words, &place, 1);
-    return code == PIVOTDAWN_ACCEPTED ? SHOWN : refused(sheet, code, place);
+        code = pivotdawn_paint_text(sheet->image, sheet->words, first, rows,
+                                    sheet->cells, sheet->plane_words,
+                                    sheet->scratch, sheet->scratch_words,
+                                    sheet->out, sheet->out_bytes,
+                                    answer, PIVOTDAWN_ANSWER_WORDS);
+    *bytes = (size_t)answer[PIVOTDAWN_BYTES];
+    return code == PIVOTDAWN_ACCEPTED ? SHOWN : refused(sheet, code, answer[PIVOTDAWN_PLACE]);
 }
 
-/* ---- a cell as text ---- */
-
-/* A character in UTF-8. None steers the terminal: an image with a control character is refused. */
-static void put_character(uint32_t point)
+/* Band after band: joined, their texts are the text of the sheet. */
+static int show_sheet(const struct sheet *sheet)
 {
-    static const uint32_t leads[] = {0, 0xC0, 0xE0, 0xF0};
-    int tail = point < 0x80 ? 0 : point < 0x800 ? 1 : point < 0x10000 ? 2 : 3;
-
-    putchar((int)(leads[tail] | point >> 6 * tail));
-    while (tail-- > 0)
-        putchar((int)(0x80 | (point >> 6 * tail & 0x3F)));
-}
-
-enum { HAS_UP = 1, HAS_DOWN = 2, HAS_LEFT = 4, HAS_RIGHT = 8 };
-
-/* By the arms there are: all light, double across, double up and down, all double. */
-static const char *const shapes[4][16] = {
-    {" ", "╵", "╷", "│", "╴", "┘", "┐", "┤", "╶", "└", "┌", "├", "─", "┴", "┬", "┼"},
-    {" ", "╵", "╷", "│", "═", "╛", "╕", "╡", "═", "╘", "╒", "╞", "═", "╧", "╤", "╪"},
-    {" ", "║", "║", "║", "╴", "╜", "╖", "╢", "╶", "╙", "╓", "╟", "─", "╨", "╥", "╫"},
-    {" ", "║", "║", "║", "═", "╝", "╗", "╣", "═", "╚", "╔", "╠", "═", "╩", "╦", "╬"},
-};
-
-/* The nearest box character: the two arms of a line show the heavier of their weights, and
-   only a straight line can be dashed. */
-static const char *stroke_shape(uint32_t cell)
-{
-    uint32_t up = PIVOTDAWN_ARM_UP(cell), down = PIVOTDAWN_ARM_DOWN(cell);
-    uint32_t left = PIVOTDAWN_ARM_LEFT(cell), right = PIVOTDAWN_ARM_RIGHT(cell);
-    int arms = (up ? HAS_UP : 0) | (down ? HAS_DOWN : 0) | (left ? HAS_LEFT : 0) | (right ? HAS_RIGHT : 0);
-    int upright = up == PIVOTDAWN_DOUBLE || down == PIVOTDAWN_DOUBLE;
-    int across = left == PIVOTDAWN_DOUBLE || right == PIVOTDAWN_DOUBLE;
-
-    if (arms == (HAS_UP | HAS_DOWN) && up == PIVOTDAWN_DASHED && down == PIVOTDAWN_DASHED)
-        return "┆";
-    if (arms == (HAS_LEFT | HAS_RIGHT) && left == PIVOTDAWN_DASHED && right == PIVOTDAWN_DASHED)
-        return "┄";
-    return shapes[2 * upright + across][arms];
-}
-
-static const char *marker_shape(uint32_t cell)
-{
-    static const char *const arrows[2][4] = {{"↑", "↓", "←", "→"}, {"⇡", "⇣", "⇠", "⇢"}};
-
-    switch (PIVOTDAWN_MARKER_KIND(cell)) {
-    case PIVOTDAWN_SELF_LOOP:
-        return "↻";
-    case PIVOTDAWN_DUMMY:
-        return "·";
-    default:
-        return arrows[PIVOTDAWN_MARKER_DASHED(cell)][PIVOTDAWN_MARKER_DIRECTION(cell)];
-    }
-}
-
-static void put_cell(uint32_t cell)
-{
-    switch (PIVOTDAWN_TAG(cell)) {
-    case PIVOTDAWN_TEXT:
-        /* the character to its left fills this column too: a continuation never stands alone */
-        if (cell != PIVOTDAWN_CONTINUATION)
-            put_character(PIVOTDAWN_CODE_POINT(cell));
-        break;
-    case PIVOTDAWN_STROKE:
-        fputs(stroke_shape(cell), stdout);
-        break;
-    case PIVOTDAWN_MARKER:
-        fputs(marker_shape(cell), stdout);
-        break;
-    default:
-        putchar(' ');
-    }
-}
-
-/* ---- a row as text ---- */
-
-static int is_blank(uint32_t cell)
-{
-    return PIVOTDAWN_TAG(cell) == PIVOTDAWN_EMPTY ||
-           (PIVOTDAWN_TAG(cell) == PIVOTDAWN_TEXT && PIVOTDAWN_CODE_POINT(cell) == ' ');
-}
-
-/* Row `row` of the sheet stands at `start` of the band. No line ends in a blank. */
-static void show_cells(const struct sheet *sheet, size_t start, size_t row)
-{
-    const uint32_t *cells = sheet->cells + start;
-    size_t end = sheet->image[PIVOTDAWN_WIDTH], x;
-
-    (void)row;
-    while (end > 0 && is_blank(cells[end - 1]))
-        end--;
-    for (x = 0; x < end; x++)
-        put_cell(cells[x]);
-    putchar('\n');
-}
-
-static void put_stretch(size_t first, size_t last, uint32_t colour)
-{
-    printf(" %lu", (unsigned long)first);
-    if (last > first)
-        printf("-%lu", (unsigned long)last);
-    printf(" %08lX", (unsigned long)colour);
-}
-
-/* The stretches of one colour, by their columns; colour 0 is none, and a row without any is
-   passed over. */
-static void show_colours(const struct sheet *sheet, size_t start, size_t row)
-{
-    const uint32_t *colours = sheet->colours + start;
-    size_t width = sheet->image[PIVOTDAWN_WIDTH], shown = 0, x, end;
-
-    for (x = 0; x < width; x = end) {
-        for (end = x + 1; end < width && colours[end] == colours[x];)
-            end++;
-        if (colours[x] == 0)
-            continue;
-        if (shown++ == 0)
-            printf("row %lu:", (unsigned long)row);
-        else
-            putchar(',');
-        put_stretch(x, end - 1, colours[x]);
-    }
-    if (shown > 0)
-        putchar('\n');
-}
-
-/* Paints the sheet band after band, and shows each row by `show`. */
-static int sweep(const struct sheet *sheet, void (*show)(const struct sheet *, size_t, size_t))
-{
-    size_t height = sheet->image[PIVOTDAWN_HEIGHT], first, rows, row;
+    size_t height = sheet->image[PIVOTDAWN_HEIGHT], first, rows, bytes;
 
     for (first = 0; first < height; first += rows) {
         rows = height - first < BAND_ROWS ? height - first : BAND_ROWS;
-        if (paint_band(sheet, first, rows) != SHOWN)
+        if (write_band(sheet, first, rows, &bytes) != SHOWN)
             return REFUSED;
-        for (row = 0; row < rows; row++)
-            show(sheet, pivotdawn_plane_words(sheet->image, row), first + row);
-    }
-    return SHOWN;
-}
-
-static int show_sheet(const struct sheet *sheet)
-{
-    int status = sweep(sheet, show_cells);
-
-    if (status == SHOWN && sheet->coloured) {
-        puts("colours");
-        status = sweep(sheet, show_colours);
+        fwrite(sheet->out, 1, bytes, stdout);
     }
     if (fflush(stdout) != 0 || ferror(stdout))
         return not_tried("standard output", "cannot be written");
-    return status;
+    return SHOWN;
 }
 
 /* ---- the program ---- */
@@ -365,6 +247,7 @@ static int card(struct sheet *sheet)
     free(sheet->colours);
     free(sheet->stamps);
     free(sheet->scratch);
+    free(sheet->out);
     return status;
 }
 

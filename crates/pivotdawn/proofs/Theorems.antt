@@ -1,11 +1,13 @@
 -- Any two answers that the contract of a call for C and Rust permits are equal: the code, and each lent word afterwards.
 use Prim.Native.Nat.{ℕ}
 use mathlib.Core.List.{List}
-use mathlib.Core.Path.{_≡_, sym, _∙_}
+use mathlib.Core.Path.{_≡_, sym, ap, _∙_}
 use Rattle.refusals.specs.Rules.{checked}
 use Rattle.picture.specs.Painted.{painted, paintedColoured}
 use Rattle.paint.specs.Outcome.{outcomeOf}
-use Rattle.pivotdawn.specs.Told.{told, toldPlace}
+use Rattle.painttext.specs.declared.Written.{Written}
+use Rattle.painttext.proofs.Theorems.{text-one-answer, coloured-text-one-answer}
+use Rattle.pivotdawn.specs.Told.{told, toldPlace, toldWritten, TextTold, TextToldColoured}
 
 pub one-answer :
     (image words : List ℕ) (r s : ℕ) (a b : List ℕ) →
@@ -53,3 +55,28 @@ module _ (image : List ℕ) (first rows : ℕ) (cells colours stamps scratch wor
     p .inScratch ∙ sym (q .inScratch),
     p .inWords ∙ sym (q .inWords),
   )
+
+-- what is told of one answer is one
+told-once : (v w : Written) (r s : ℕ) (words a b : List ℕ) → v ≡ w → r ≡ v .code → s ≡ w .code → a ≡ toldWritten v words → b ≡ toldWritten w words → (r ≡ s) × (a ≡ b)
+told-once v w r s words a b e p q t u = (p ∙ ap (λ (x : Written). x .code) e ∙ sym q, t ∙ ap (λ (x : Written). toldWritten x words) e ∙ sym u)
+
+pub text-told-one-answer :
+    (image : List ℕ) (first rows : ℕ) (cells scratch out words : List ℕ) (r s : ℕ) (c d t u o p a b : List ℕ) →
+    TextTold image first rows cells scratch out words r c t o a → TextTold image first rows cells scratch out words s d u p b →
+    (r ≡ s) × (c ≡ d) × (t ≡ u) × (o ≡ p) × (a ≡ b)
+text-told-one-answer image first rows cells scratch out words r s c d t u o p a b one other =
+    let same = text-one-answer image first rows cells scratch out (one .written) (other .written) c d t u o p (one .painted) (other .painted) in
+    let told' = told-once (one .written) (other .written) r s words a b (same .0) (one .answered) (other .answered) (one .inWords) (other .inWords) in
+    (told' .0, same .1, same .2, same .3, told' .1)
+
+pub coloured-text-told-one-answer :
+    (image : List ℕ) (first rows : ℕ) (cells colours stamps scratch out words : List ℕ) (r s : ℕ) (c d k l m n t u o p a b : List ℕ) →
+    TextToldColoured image first rows cells colours stamps scratch out words r c k m t o a →
+    TextToldColoured image first rows cells colours stamps scratch out words s d l n u p b →
+    (r ≡ s) × (c ≡ d) × (k ≡ l) × (m ≡ n) × (t ≡ u) × (o ≡ p) × (a ≡ b)
+coloured-text-told-one-answer image first rows cells colours stamps scratch out words r s c d k l m n t u o p a b one other =
+    let same =
+    coloured-text-one-answer image first rows cells colours stamps scratch out (one .written) (other .written) c d k l m n t u o p (one .painted) (other .painted)
+    in
+    let told' = told-once (one .written) (other .written) r s words a b (same .0) (one .answered) (other .answered) (one .inWords) (other .inWords) in
+    (told' .0, same .1, same .2, same .3, same .4, same .5, told' .1)

@@ -1,10 +1,10 @@
-// Pivotdawn for C and Rust to link: its three public calls, with numbers and slices alone. In C a slice is a pointer and a length; `include/pivotdawn.h` declares all three.
+// Pivotdawn for C and Rust to link: its five public calls, with numbers and slices alone. In C a slice is a pointer and a length; `include/pivotdawn.h` declares all five.
 ghost use mathlib.Core.Path.{_≡_};
 ghost use lib.ListN.{set};
 ghost use Rattle.refusals.specs.Rules.{checked};
 ghost use Rattle.picture.specs.Painted.{painted, paintedColoured};
 ghost use Rattle.paint.specs.Outcome.{outcomeOf};
-ghost use Rattle.pivotdawn.specs.Told.{told, toldPlace};
+ghost use Rattle.pivotdawn.specs.Told.{told, toldPlace, TextTold, TextToldColoured};
 
 // Stores a number at a place, where there is one.
 fn store(words: &mut [u64], place: usize, value: usize)
@@ -69,4 +69,53 @@ pub extern "C" fn pivotdawn_paint_coloured(
     let coloured = paint::paint_coloured(image, first, rows, cells, colours, stamps, scratch);
     store(answer, 0, coloured.place);
     coloured.code
+}
+
+// `paint_text`: answers the code of a band as plain text; its place goes into word 0 of `answer`, how many bytes were written into word 1.
+#[no_mangle]
+pub extern "C" fn pivotdawn_paint_text(
+    image: &[u32],
+    first: usize,
+    rows: usize,
+    cells: &mut [u32],
+    scratch: &mut [u32],
+    out: &mut [u8],
+    answer: &mut [u64],
+) -> u32
+    ensures { λ r. ⌜ TextTold (now (image .entry)) first rows (now (cells .entry)) (now (scratch .entry)) (now (out .entry)) (now (answer .entry)) r (now (cells .exit)) (now (scratch .exit)) (now (out .exit)) (now (answer .exit)) ⌝ }
+{
+    let text = painttext::paint_text(image, first, rows, cells, scratch, out);
+    store(answer, 0, text.place);
+    store(answer, 1, text.bytes);
+    text.code
+}
+
+// `paint_text_coloured`: answers the code of a band as coloured text; its place goes into word 0 of `answer`, how many bytes were written into word 1.
+#[no_mangle]
+pub extern "C" fn pivotdawn_paint_text_coloured(
+    image: &[u32],
+    first: usize,
+    rows: usize,
+    cells: &mut [u32],
+    colours: &mut [u32],
+    stamps: &mut [u32],
+    scratch: &mut [u32],
+    out: &mut [u8],
+    answer: &mut [u64],
+) -> u32
+    ensures { λ r. ⌜ TextToldColoured (now (image .entry)) first rows (now (cells .entry)) (now (colours .entry)) (now (stamps .entry)) (now (scratch .entry)) (now (out .entry)) (now (answer .entry)) r (now (cells .exit)) (now (colours .exit)) (now (stamps .exit)) (now (scratch .exit)) (now (out .exit)) (now (answer .exit)) ⌝ }
+{
+    let coloured_text = painttext::paint_text_coloured(
+        image,
+        first,
+        rows,
+        cells,
+        colours,
+        stamps,
+        scratch,
+        out,
+    );
+    store(answer, 0, coloured_text.place);
+    store(answer, 1, coloured_text.bytes);
+    coloured_text.code
 }
