@@ -1,6 +1,6 @@
-//! Which bands of an image painting is asked for: sheets cut into bands of several
-//! heights, bands that leave the sheet, buffers that are short. The requests follow
-//! from the image and a seed alone, whoever is asked them.
+//! Which bands of an image painting is asked for, as cells and as text: sheets cut into bands
+//! of several heights, bands that leave the sheet, buffers and outputs that are short. The
+//! requests follow from the image and a seed alone, whoever is asked them.
 
 use crate::dice::Dice;
 use crate::generate::damage;
@@ -33,12 +33,36 @@ const CUTTINGS: [(&str, Cutting); 5] = [
 const MOST_BANDS: usize = 40;
 const MOST_WORDS: usize = 400_000;
 
-/// A buffer is lent with up to so many words more than are wanted.
-const MOST_SPARE: u32 = 5;
+/// A buffer is lent with up to so many words more than are wanted, an output with up to so
+/// many bytes more.
+const MOST_SPARE: usize = 5;
+const MOST_SPARE_BYTES: usize = 300;
+
+/// Much more than an output wants.
+const MUCH: usize = 5_000;
+
+/// A band about which refusals are asked has at most so many rows.
+const FEW_ROWS: usize = 20;
 
 /// A sheet of more cells is not painted: some damages make one that is dear to paint
 /// and shows nothing that a smaller one does not.
 const MOST_PAINTED: usize = 1_500_000;
+
+/// The most that can be lent.
+#[derive(Clone, Copy)]
+pub struct Most {
+    /// Words of a buffer of cells.
+    pub words: usize,
+    /// Bytes of an output.
+    pub bytes: usize,
+}
+
+/// How a band is asked for: coloured or plain, as text or as cells alone.
+#[derive(Clone, Copy)]
+struct Manner {
+    coloured: bool,
+    as_text: bool,
+}
 
 /// A request, and how it was made.
 pub type Made = (&'static str, Request);
@@ -47,17 +71,16 @@ pub type Made = (&'static str, Request);
 pub struct Asking {
     pub subject: Rc<Subject>,
     dice: Dice,
-    /// No buffer of cells is lent with more words.
-    most_lent: usize,
+    most: Most,
     pub requests: Vec<Made>,
 }
 
 impl Asking {
-    pub fn about(words: Vec<u32>, seed: u64, most_lent: usize) -> Asking {
+    pub fn about(words: Vec<u32>, seed: u64, most: Most) -> Asking {
         Asking {
             subject: Rc::new(subject_of(words)),
             dice: Dice::new(seed ^ 0xBA4D_0000),
-            most_lent,
+            most,
             requests: Vec::new(),
         }
     }
@@ -72,6 +95,7 @@ impl Asking {
         let request = Request {
             subject: Rc::clone(&self.subject),
             coloured,
+            output: None,
             first,
             rows,
             lent,
@@ -79,23 +103,58 @@ impl Asking {
         self.requests.push((how, request));
     }
 
+    /// As text, with so many bytes of output.
+    pub fn ask_text(
+        &mut self,
+        how: &'static str,
+        coloured: bool,
+        band: (u64, u64),
+        lent: [usize; 4],
+        output: usize,
+    ) {
+        self.ask(how, coloured, band, lent);
+        if let Some((_, last)) = self.requests.last_mut() {
+            last.output = Some(output);
+        }
+    }
+
     /// Every buffer with as much as a band of so many rows wants, or a little more.
     fn enough_for(&mut self, rows: usize) -> [usize; 4] {
         let room = self.subject.room(rows);
-        room.map(|wanted| wanted + self.dice.index(MOST_SPARE as usize + 1))
+        room.map(|wanted| wanted + self.dice.index(MOST_SPARE + 1))
     }
 
-    /// The most rows of a band whose buffers can be lent.
-    fn most_rows(&self) -> usize {
-        (self.most_lent - MOST_SPARE as usize) / self.subject.width().max(1)
+    /// An output with just the room, with a byte more or with some more.
+    fn enough_output(&mut self, rows: usize, coloured: bool) -> usize {
+        let more = match self.dice.below(4) {
+            0 | 1 => 0,
+            2 => 1,
+            _ => self.dice.index(MOST_SPARE_BYTES + 1),
+        };
+        self.subject.output_room(rows, coloured) + more
     }
 
-    /// One cutting into bands plain and one coloured: of 25 numbers each pair once.
-    pub fn ask_two_cuttings(&mut self, number: u64) {
-        let plain = number as usize % CUTTINGS.len();
-        let coloured = (plain + number as usize / CUTTINGS.len()) % CUTTINGS.len();
-        self.ask_cutting(CUTTINGS[plain], false);
-        self.ask_cutting(CUTTINGS[coloured], true);
+    /// The most rows of a band for which enough can be lent.
+    fn most_rows(&self, Manner { coloured, as_text }: Manner) -> usize {
+        let by_words = (self.most.words - MOST_SPARE) / self.subject.width().max(1);
+        if !as_text {
+            return by_words;
+        }
+        let row_bytes = self.subject.output_room(1, coloured);
+        by_words.min((self.most.bytes - MOST_SPARE_BYTES) / row_bytes)
+    }
+
+    /// One cutting into bands plain and one coloured, of 25 numbers each pair once; and the
+    /// same two as text, each in the other's bands.
+    pub fn ask_four_cuttings(&mut self, number: u64) {
+        let one = number as usize % CUTTINGS.len();
+        let other = (one + number as usize / CUTTINGS.len()) % CUTTINGS.len();
+        for as_text in [false, true] {
+            let [plain, coloured] = if as_text { [other, one] } else { [one, other] };
+            for (nth, coloured) in [(plain, false), (coloured, true)] {
+                self.ask_cutting(CUTTINGS[nth], Manner { coloured, as_text });
+            }
+        }
     }
 }
 
@@ -112,19 +171,33 @@ fn subject_of(words: Vec<u32>) -> Subject {
 
 impl Asking {
     /// Bands of the whole sheet; a refused image is asked for one band.
-    fn ask_cutting(&mut self, (how, cutting): (&'static str, Cutting), coloured: bool) {
-        if !self.subject.is_painted() {
-            return self.ask("refused", coloured, (0, 1), [3; 4]);
-        }
-        for (first, rows) in self.bands(cutting) {
-            let lent = self.enough_for(rows);
-            self.ask(how, coloured, (first as u64, rows as u64), lent);
+    fn ask_cutting(&mut self, (how, cutting): (&'static str, Cutting), manner: Manner) {
+        let Manner { coloured, as_text } = manner;
+        let is_painted = self.subject.is_painted();
+        let bands = match is_painted {
+            true => self.bands(cutting, manner),
+            false => vec![(0, 1)],
+        };
+        for (first, rows) in bands {
+            let band = (first as u64, rows as u64);
+            let (how, lent, output) = match is_painted {
+                true => (
+                    how,
+                    self.enough_for(rows),
+                    self.enough_output(rows, coloured),
+                ),
+                false => ("refused", [3; 4], 3),
+            };
+            match as_text {
+                true => self.ask_text(how, coloured, band, lent, output),
+                false => self.ask(how, coloured, band, lent),
+            }
         }
     }
 
     /// First row and rows of each band that is asked.
-    fn bands(&mut self, cutting: Cutting) -> Vec<(usize, usize)> {
-        let (height, most_rows) = (self.subject.height(), self.most_rows());
+    fn bands(&mut self, cutting: Cutting, manner: Manner) -> Vec<(usize, usize)> {
+        let (height, most_rows) = (self.subject.height(), self.most_rows(manner));
         let mut bands = Vec::new();
         let mut first = 0;
         while first < height {
@@ -141,7 +214,7 @@ impl Asking {
         if height == 0 || matches!(cutting, Cutting::Odd) {
             bands.push((height, 0));
         }
-        self.some_of(bands)
+        self.some_of(bands, manner)
     }
 
     fn odd_rows(&mut self, height: usize) -> usize {
@@ -153,8 +226,12 @@ impl Asking {
         }
     }
 
-    fn some_of(&mut self, bands: Vec<(usize, usize)>) -> Vec<(usize, usize)> {
-        let words = |(_, rows): &(usize, usize)| self.subject.room(*rows).iter().sum::<usize>();
+    fn some_of(&mut self, bands: Vec<(usize, usize)>, manner: Manner) -> Vec<(usize, usize)> {
+        let Manner { coloured, as_text } = manner;
+        let words = |(_, rows): &(usize, usize)| {
+            let output = usize::from(as_text) * self.subject.output_room(*rows, coloured);
+            self.subject.room(*rows).iter().sum::<usize>() + output / 4
+        };
         let dearest = bands.iter().map(words).max().unwrap_or(0);
         let most = (MOST_WORDS / dearest.max(1)).clamp(2, MOST_BANDS);
         if bands.len() <= most {
@@ -195,28 +272,39 @@ fn beyond(height: u64) -> [(u64, u64); 15] {
 }
 
 impl Asking {
-    /// Code 11, also where buffers are short: it wins over 12, as the check's codes win
-    /// over both.
+    /// Code 11, also where buffers and output are short: it wins over 12 and 20, as the
+    /// check's codes win over all.
     pub fn ask_beyond(&mut self) {
         for band in beyond(self.subject.height() as u64) {
             let coloured = self.dice.one_in(2);
             let lent = [(); 4].map(|()| self.dice.index(60));
             self.ask("beyond the sheet", coloured, band, lent);
+            let output = self.dice.index(MOST_SPARE_BYTES);
+            self.ask_text("beyond the sheet", !coloured, band, lent, output);
         }
+    }
+
+    /// Some rows of a painted sheet, maybe none; no band where a large scratch would make
+    /// every request dear, but for one in four.
+    fn few_rows(&mut self) -> Option<(usize, usize)> {
+        let height = self.subject.height();
+        let first = self.dice.index(height + 1);
+        let manner = Manner {
+            coloured: true,
+            as_text: true,
+        };
+        let most_rows = self.most_rows(manner).min(FEW_ROWS);
+        let rows = self.dice.index((height - first).min(most_rows) + 1);
+        let is_dear = self.subject.room(rows)[SCRATCH] > 10_000 && !self.dice.one_in(4);
+        (self.subject.is_painted() && !is_dear).then_some((first, rows))
     }
 
     /// Code 12: each buffer short alone, several short at once, and none.
     pub fn ask_short_of_room(&mut self) {
-        let height = self.subject.height();
-        let first = self.dice.index(height + 1);
-        let rows = self
-            .dice
-            .index((height - first).min(self.most_rows()).min(20) + 1);
-        let room = self.subject.room(rows);
-        // A large scratch is dear.
-        if !self.subject.is_painted() || room[SCRATCH] > 10_000 && !self.dice.one_in(4) {
+        let Some((first, rows)) = self.few_rows() else {
             return;
-        }
+        };
+        let room = self.subject.room(rows);
         let band = (first as u64, rows as u64);
         for coloured in [false, true] {
             self.ask("with just the room", coloured, band, room);
@@ -238,26 +326,70 @@ impl Asking {
         }
     }
 
+    /// Code 20: an output that is short by a byte, by some or by all, one that has just the
+    /// room, and longer ones.
+    pub fn ask_outputs(&mut self) {
+        let Some((first, rows)) = self.few_rows() else {
+            return;
+        };
+        let (band, coloured) = ((first as u64, rows as u64), self.dice.one_in(2));
+        let wanted = self.subject.output_room(rows, coloured);
+        for (how, output) in [
+            ("output short by a byte", wanted.saturating_sub(1)),
+            ("output short", self.dice.index(wanted + 1)),
+            ("no output", 0),
+            ("just the output", wanted),
+            ("output longer by a byte", wanted + 1),
+            ("output much longer", wanted + MUCH),
+        ] {
+            let lent = self.enough_for(rows);
+            self.ask_text(how, coloured, band, lent, output);
+        }
+    }
+
+    /// 12 wins over 20: a buffer short beside an output that is short, or is not.
+    pub fn ask_short_of_both(&mut self) {
+        let Some((first, rows)) = self.few_rows() else {
+            return;
+        };
+        let (band, room) = ((first as u64, rows as u64), self.subject.room(rows));
+        for coloured in [false, true] {
+            let wanted = self.subject.output_room(rows, coloured);
+            for output in [wanted.saturating_sub(1), wanted, 0] {
+                for buffer in 0..room.len() {
+                    let mut lent = self.enough_for(rows);
+                    lent[buffer] = room[buffer].saturating_sub(1);
+                    self.ask_text("one buffer short", coloured, band, lent, output);
+                }
+                self.ask_text("nothing lent", coloured, band, [0; 4], output);
+            }
+        }
+    }
+
     /// The image damaged: the check's codes, and what is still accepted is painted whole.
     pub fn ask_damaged(&mut self, times: u32, seed: u64) {
         let mut words = self.subject.words.clone();
         damage(&mut words, times, seed);
         self.subject = Rc::new(subject_of(words));
         if self.subject.is_painted() {
-            self.ask_cutting(WHOLE, false);
-            self.ask_cutting(WHOLE, true);
+            for (coloured, as_text) in [(false, false), (true, false), (false, true), (true, true)]
+            {
+                self.ask_cutting(WHOLE, Manner { coloured, as_text });
+            }
         }
         self.ask_for_no_row();
     }
 
-    /// No rows, and a band beyond the sheet, with little lent. Of a refused image no word
-    /// that was lent may change, and its code wins over 11 and 12.
+    /// No rows, and a band beyond the sheet, with little lent. Of a refused image no word or
+    /// byte that was lent may change, and its code wins over 11, 12 and 20.
     pub fn ask_for_no_row(&mut self) {
         let bands = beyond(self.subject.height() as u64);
         for coloured in [false, true] {
             for band in [(0, 0), bands[self.dice.index(bands.len())]] {
                 let lent = [(); 4].map(|()| self.dice.index(40));
                 self.ask("asked for no row", coloured, band, lent);
+                let output = self.dice.index(40);
+                self.ask_text("asked for no row", coloured, band, lent, output);
             }
         }
     }

@@ -1,6 +1,7 @@
 //! `bench`: the product beside the original on the same sheets, as Markdown tables: the
-//! check alone, the painting alone, and the public call, which does both. And how the
-//! cost of the check and of the painting grows, as tables and sheets double.
+//! check alone, the painting alone, the public call, which does both, and the one that writes
+//! the band as text too. And how the cost of the check and of the painting grows, as tables
+//! and sheets double.
 
 mod clock;
 mod counts;
@@ -58,17 +59,26 @@ enum Side {
     Painting(Manner),
     /// The product's public call for each band, which checks and paints.
     Public(Manner),
+    /// The one that writes each band as text too.
+    Text(Manner),
     /// The original's painting of all bands.
     Original(Manner),
 }
 
 impl Side {
+    /// All that are measured in one manner.
+    fn of(manner: Manner) -> [Side; 4] {
+        let kinds = [Side::Painting, Side::Public, Side::Text, Side::Original];
+        kinds.map(|kind| kind(manner))
+    }
+
     /// As `bench-once` is told it.
     fn name(self) -> String {
         match self {
             Side::Check => "check".to_string(),
             Side::Painting(manner) => format!("painting-{}", manner.name()),
             Side::Public(manner) => format!("public-{}", manner.name()),
+            Side::Text(manner) => format!("text-{}", manner.name()),
             Side::Original(manner) => format!("original-{}", manner.name()),
         }
     }
@@ -78,8 +88,7 @@ impl Side {
         for coloured in [false, true] {
             for band in BANDS {
                 let manner = Manner { coloured, band };
-                let kinds = [Side::Painting, Side::Public, Side::Original];
-                sides.extend(kinds.map(|kind| kind(manner)));
+                sides.extend(Side::of(manner));
             }
         }
         sides.into_iter().find(|side| side.name() == name)
@@ -96,6 +105,10 @@ impl Side {
             Side::Public(manner) => {
                 let bands = bands(manner.bands(words));
                 product::work(words, manner, product::Call::Public, bands)
+            }
+            Side::Text(manner) => {
+                let bands = bands(manner.bands(words));
+                product::work(words, manner, product::Call::Text, bands)
             }
             Side::Original(manner) => {
                 let bands = bands(manner.bands(words));
@@ -215,6 +228,9 @@ pub fn command(options: &[String]) -> io::Result<ExitCode> {
     for coloured in [false, true] {
         write_painting(&measured, coloured)?;
     }
+    for coloured in [false, true] {
+        write_text(&measured, coloured)?;
+    }
     growth::write(rounds)?;
     Ok(ExitCode::SUCCESS)
 }
@@ -271,8 +287,12 @@ struct Line {
     /// The bands of the sheet, and those whose instructions were counted.
     bands: usize,
     counted_bands: usize,
+    /// The cells of the one and of the other.
+    cells: usize,
+    counted_cells: usize,
     painting: Cost,
     public: Cost,
+    text: Cost,
     original: Cost,
 }
 
@@ -289,8 +309,7 @@ impl Measured {
         let mut sides = vec![Side::Check];
         for manner in &manners {
             product::assert_painted_alike(&sheet, *manner);
-            let kinds = [Side::Painting, Side::Public, Side::Original];
-            sides.extend(kinds.map(|kind| kind(*manner)));
+            sides.extend(Side::of(*manner));
         }
         let seconds = with_plan(&sheet.words, |planned| {
             let works = sides
@@ -305,14 +324,22 @@ impl Measured {
         };
         let check = cost(0);
         let lines = manners.into_iter().enumerate().map(|(nth, manner)| {
-            let [painting, public, original] = [1, 2, 3].map(|side| cost(3 * nth + side));
+            let [painting, public, text, original] = [1, 2, 3, 4].map(|side| cost(4 * nth + side));
             let bands = manner.bands(&sheet.words);
+            let counted = counted_bands(bands.clone());
+            let cells_of = |bands: &[Band]| {
+                let rows: usize = bands.iter().map(|(_, rows)| rows).sum();
+                rows * sheet.words[0] as usize
+            };
             Line {
                 manner,
                 bands: bands.len(),
-                counted_bands: counted_bands(bands).len(),
+                counted_bands: counted.len(),
+                cells: cells_of(&bands),
+                counted_cells: cells_of(&counted),
                 painting,
                 public,
+                text,
                 original,
             }
         });
@@ -431,11 +458,16 @@ fn write_painting(measured: &[Measured], coloured: bool) -> io::Result<()> {
     Ok(())
 }
 
-fn painting_row(one: &Measured, line: &Line) -> String {
-    let band = match line.manner.band {
+/// As a table has it.
+fn band_name(band: usize) -> String {
+    match band {
         ALL_ROWS => "whole".to_string(),
         band => band.to_string(),
-    };
+    }
+}
+
+fn painting_row(one: &Measured, line: &Line) -> String {
+    let band = band_name(line.manner.band);
     let Line {
         painting,
         public,
@@ -463,6 +495,63 @@ fn painting_row(one: &Measured, line: &Line) -> String {
         of_original(line.counted_bands, &one.check),
         of_original(1, painting),
         format!("{} |", of_original(1, public)),
+    ]
+    .join(" | ")
+}
+
+fn write_text(measured: &[Measured], coloured: bool) -> io::Result<()> {
+    let mut out = io::stdout();
+    let kind = if coloured { "Coloured" } else { "Plain" };
+    writeln!(
+        out,
+        "\n{kind} text, the whole sheet in bands of 1 and of 8 rows and as one band. `both` is \
+         the public call that checks and paints, `text` the one that writes the band besides; \
+         their shares are of the original's painting at the same band height, which writes no \
+         text. `writing` is what the one takes more than the other, for a cell; \
+         its time is left out where it is under a twentieth of the call's.\n\n\
+         | sheet | band | text, us | both | text | writing, ns a cell \
+         | instructions: both | text | writing, a cell |\n\
+         |---|--:|--:|--:|--:|--:|--:|--:|--:|"
+    )?;
+    for one in measured {
+        let lines = one.lines.iter();
+        for line in lines.filter(|line| line.manner.coloured == coloured) {
+            writeln!(out, "{}", text_row(one, line))?;
+        }
+    }
+    Ok(())
+}
+
+/// A smaller share of a call is lost in how the call's time differs from round to round.
+const LEAST_WRITING: f64 = 0.05;
+
+fn text_row(one: &Measured, line: &Line) -> String {
+    let Line {
+        public,
+        text,
+        original,
+        ..
+    } = line;
+    let writing = text.seconds - public.seconds;
+    let writing = match writing < LEAST_WRITING * text.seconds {
+        true => "-".to_string(),
+        false => format!("{:.2}", writing * 1e9 / line.cells as f64),
+    };
+    let both = text.instructions.zip(public.instructions);
+    let counted = both.map_or("-".to_string(), |(text, public)| {
+        let more = text as f64 - public as f64;
+        format!("{:.1}", more / line.counted_cells as f64)
+    });
+    let of_original = |cost: &Cost| count_share(1, cost.instructions, original.instructions);
+    [
+        format!("| {} | {}", one.sheet.name, band_name(line.manner.band)),
+        microseconds(text.seconds),
+        share(public.seconds, original.seconds),
+        share(text.seconds, original.seconds),
+        writing,
+        of_original(public),
+        of_original(text),
+        format!("{counted} |"),
     ]
     .join(" | ")
 }

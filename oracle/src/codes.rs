@@ -1,14 +1,15 @@
 //! The codes of refusal, in the order in which they are decided, and what an image must
-//! get by how it was made. Request #105 put 13 between 5 and 6.
+//! get by how it was made. Request #105 put 13 between 5 and 6, request #101 put 20 at the end.
 
 use crate::slow_check::Answer;
 
 /// The check's, after 0 for what is accepted.
 pub const CHECK_CODES: [u32; 12] = [0, 1, 2, 3, 4, 5, 13, 6, 7, 8, 9, 10];
 
-/// Those of painting: the check's, then that of the band and that of the room.
+/// Those of painting: the check's, then that of the band, that of the room, and that of a
+/// text's output.
 #[cfg(original)]
-pub const PAINT_CODES: [u32; 14] = [0, 1, 2, 3, 4, 5, 13, 6, 7, 8, 9, 10, 11, 12];
+pub const PAINT_CODES: [u32; 15] = [0, 1, 2, 3, 4, 5, 13, 6, 7, 8, 9, 10, 11, 12, 20];
 
 /// Where a code stands in such a list.
 pub fn nth_of(codes: &[u32], code: u32) -> usize {

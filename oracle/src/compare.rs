@@ -6,10 +6,14 @@ mod library;
 mod specimens;
 
 use crate::asking::{count_and_seed, shown_image, PROGRESS, SHOWN};
-use crate::band_requests::Asking;
-use crate::codes::{CHECK_CODES, PAINT_CODES};
+use crate::band_requests::{Asking, Most};
+use crate::codes::{Meant, CHECK_CODES, PAINT_CODES};
 use crate::coverage::Coverage;
+use crate::every_stroke::every_stroke;
 use crate::full::full_images;
+use crate::generate::accepted;
+use crate::requests::Request;
+use crate::text_coverage::TextCoverage;
 use crate::wrong_use;
 use library::{answer_words, unnoticed_fault, Library};
 use specimens::{asking_about, Block, Kind, Specimen, KIND_NAMES};
@@ -20,8 +24,11 @@ use std::sync::atomic::{AtomicU64, Ordering};
 use std::sync::mpsc::{channel, RecvTimeoutError};
 use std::time::Instant;
 
-/// A buffer of cells is lent with at most so many words.
-const MOST_LENT: usize = 1_500_010;
+/// The most that is lent.
+const MOST: Most = Most {
+    words: 1_500_010,
+    bytes: 8_000_000,
+};
 
 /// Images that a thread takes at a time.
 const BLOCK: u64 = 1_000;
@@ -73,14 +80,15 @@ fn add_counts<N: Ord>(sums: &mut BTreeMap<N, u64>, more: BTreeMap<N, u64>) {
 struct Tally {
     images: [u64; KIND_NAMES.len()],
     checks_by_code: ByCode,
-    requests_by_code: ByCode,
+    /// Requests by their kind, plain or coloured, as text or not, and by code.
+    requests: BTreeMap<&'static str, ByCode>,
     /// Images by their maker and the check's code, and requests by how they were made.
     makers: BTreeMap<String, ByCode>,
     makings: BTreeMap<&'static str, u64>,
-    plain: u64,
     differences: u64,
     shown: Vec<Difference>,
     coverage: Coverage,
+    texts: TextCoverage,
 }
 
 impl Tally {
@@ -88,13 +96,13 @@ impl Tally {
         Tally {
             images: [0; KIND_NAMES.len()],
             checks_by_code: none_of(&CHECK_CODES),
-            requests_by_code: none_of(&PAINT_CODES),
+            requests: BTreeMap::new(),
             makers: BTreeMap::new(),
             makings: BTreeMap::new(),
-            plain: 0,
             differences: 0,
             shown: Vec::new(),
             coverage: Coverage::none(),
+            texts: TextCoverage::none(),
         }
     }
 
@@ -103,14 +111,16 @@ impl Tally {
             *sum += more;
         }
         add_counts(&mut self.checks_by_code, other.checks_by_code);
-        add_counts(&mut self.requests_by_code, other.requests_by_code);
+        for (kind, more) in other.requests {
+            add_counts(self.requests.entry(kind).or_default(), more);
+        }
         for (maker, more) in other.makers {
             add_counts(self.makers.entry(maker).or_default(), more);
         }
         add_counts(&mut self.makings, other.makings);
-        self.plain += other.plain;
         self.differences += other.differences;
         self.coverage.add(&other.coverage);
+        self.texts.add(&other.texts);
         self.shown.extend(other.shown);
         self.shown.sort_by_key(|difference| difference.number);
         self.shown.truncate(SHOWN);
@@ -121,7 +131,7 @@ impl Tally {
     }
 
     fn requests(&self) -> u64 {
-        self.requests_by_code.values().sum()
+        self.requests.values().flat_map(ByCode::values).sum()
     }
 
     fn differs(&mut self, number: u64, what: String, words: &[u32]) {
@@ -157,12 +167,11 @@ impl Tally {
             self.differs(number, format!("{made}, check: {what}"), &subject.words);
         }
         for (nth, (how, request)) in requests.into_iter().enumerate() {
-            let code = request.refusal().0;
-            *self.requests_by_code.entry(code).or_default() += 1;
-            *self.makings.entry(how).or_default() += 1;
-            self.plain += u64::from(!request.coloured);
-            let lent_words = answer_words(number.wrapping_add(nth as u64), 1);
-            if let Some(what) = library.paint_differs(&request, lent_words) {
+            let text = request.text();
+            self.count(how, &request, &text);
+            let told = if request.output.is_some() { 2 } else { 1 };
+            let lent_words = answer_words(number.wrapping_add(nth as u64), told);
+            if let Some(what) = library.paint_differs(&request, &text, lent_words) {
                 let what = format!("{made}, {how}, {request}: {what}");
                 self.differs(number, what, &subject.words);
             }
@@ -170,6 +179,18 @@ impl Tally {
         if subject.is_painted() {
             let (words, runs) = (&subject.words, subject.answer.runs);
             self.coverage.count(words, runs, subject.cells());
+        }
+    }
+
+    /// A request, how it was made, and the text that must be written.
+    fn count(&mut self, how: &'static str, request: &Request, text: &[u8]) {
+        let code = request.refusal().0;
+        let by_code = self.requests.entry(request.kind());
+        let by_code = by_code.or_insert_with(|| none_of(&PAINT_CODES));
+        *by_code.entry(code).or_default() += 1;
+        *self.makings.entry(how).or_default() += 1;
+        if request.output.is_some() && code == 0 {
+            self.texts.count(request, text);
         }
     }
 }
@@ -186,19 +207,25 @@ fn tally_block(block: u64, count: u64, seed: u64) -> Tally {
     tally
 }
 
-/// The images with every table at its limit, after all others.
-fn tally_full(count: u64) -> Tally {
+/// The images with every table at its limit, and the one with every stroke, after all others.
+fn tally_last(count: u64) -> Tally {
     let mut tally = Tally::none();
     let mut library = Library::new();
-    for (number, (meant, words)) in (count..).zip(full_images()) {
-        let mut asking = Asking::about(words, 0, MOST_LENT);
-        asking.ask_two_cuttings(number);
-        let specimen = Specimen {
-            kind: Kind::FullTables,
-            made: format!("every table full, for code {}", meant.code),
-            words: Vec::new(),
-            meant: Some(meant),
-        };
+    let full = full_images().into_iter().map(|(meant, words)| Specimen {
+        kind: Kind::FullTables,
+        made: format!("every table full, for code {}", meant.code),
+        words,
+        meant: Some(meant),
+    });
+    let every_stroke = Specimen {
+        kind: Kind::EveryStroke,
+        made: "every stroke".to_string(),
+        words: accepted(&every_stroke()),
+        meant: Some(Meant::code(0)),
+    };
+    for (number, mut specimen) in (count..).zip(full.chain([every_stroke])) {
+        let mut asking = Asking::about(std::mem::take(&mut specimen.words), 0, MOST);
+        asking.ask_four_cuttings(number);
         tally.take(&mut library, specimen, asking, number);
     }
     tally
@@ -218,7 +245,7 @@ fn compare_all(count: u64, seed: u64) -> Tally {
                 let block = next.fetch_add(1, Ordering::Relaxed);
                 let found = match block.cmp(&blocks) {
                     std::cmp::Ordering::Less => tally_block(block, count, seed),
-                    std::cmp::Ordering::Equal => tally_full(count),
+                    std::cmp::Ordering::Equal => tally_last(count),
                     std::cmp::Ordering::Greater => return,
                 };
                 if sender.send(found).is_err() {
@@ -288,9 +315,15 @@ impl Tally {
             write_counts(out, &format!("  {maker}, {images} images"), by_code)?;
         }
         write_counts(out, "requests", &self.makings)?;
-        write_counts(out, "requests by code", &self.requests_by_code)?;
-        let coloured = self.requests() - self.plain;
-        writeln!(out, "requests: plain {}, coloured {coloured}", self.plain)
+        for (kind, by_code) in &self.requests {
+            let requests: u64 = by_code.values().sum();
+            write_counts(
+                out,
+                &format!("requests, {kind}, {requests} by code"),
+                by_code,
+            )?;
+        }
+        self.texts.write(out)
     }
 }
 

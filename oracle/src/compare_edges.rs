@@ -228,6 +228,7 @@ fn both_ways(words: Vec<u32>, path: u32) -> Asked {
         let request = Request {
             subject: Rc::clone(&subject),
             coloured,
+            output: None,
             first: 0,
             rows: u64::from(HEIGHT),
             lent,

@@ -1,6 +1,6 @@
 //! `compare-paint`: the product's program `paintlines`, asked for bands of random
-//! sheets, plain and coloured, and for refusals. Every word that was lent is held
-//! against the original's picture and document 01.
+//! sheets, plain and coloured, as cells and as text, and for refusals. Every word and byte
+//! that was lent is held against the original's picture and the documents.
 
 use crate::asking::{
     count_and_seed, headings_by_code, in_streams, Asked, Comparison, LONGEST_IMAGE,
@@ -9,7 +9,7 @@ use crate::band_requests::{Asking, Made};
 use crate::codes::{Target, PAINT_CODES};
 use crate::full::full_images;
 use crate::generate::random_image;
-use crate::paintlines::{asked, bytes, Form, HEAD_WORDS, MOST_LENT, PROGRAM};
+use crate::paintlines::{asked, bytes, Form, HEAD_WORDS, MOST, PROGRAM};
 use crate::requests::{Request, Subject};
 use crate::wrong_use;
 use std::io;
@@ -40,22 +40,24 @@ fn streams(count: usize, seed: u64) -> impl Iterator<Item = Vec<Asked>> {
 
 // ---- The images ----------------------------------------------------------
 
-/// Buffers of more words in all are never asked in the long form.
+/// Buffers of more words in all, and outputs of more bytes, are never asked in the long form.
 const LONGEST_FORM: usize = 4_096;
 
 /// All that is asked about the image of this number: one cutting into bands plain
-/// and one coloured; of eight images one for the refusals 11 and 12, and two more
-/// once damaged. Every seventh is asked in the long form, as far as the buffers are
+/// and one coloured, and two as text; of eight images one for the refusals 11, 12 and 20, and
+/// two more once damaged. Every seventh is asked in the long form, as far as the buffers are
 /// short.
 fn requests_of(number: u64, seed: u64) -> Vec<Asked> {
     let seed = seed.wrapping_add(number);
-    let mut asking = Asking::about(random_image(seed), seed, MOST_LENT);
-    asking.ask_two_cuttings(number);
+    let mut asking = Asking::about(random_image(seed), seed, MOST);
+    asking.ask_four_cuttings(number);
     let whole = asking.requests.len();
     match number % 8 {
         1 => {
             asking.ask_beyond();
             asking.ask_short_of_room();
+            asking.ask_outputs();
+            asking.ask_short_of_both();
         }
         2 | 3 => {
             let times = asking.some_damages();
@@ -66,6 +68,7 @@ fn requests_of(number: u64, seed: u64) -> Vec<Asked> {
     let is_damaged = |nth: usize| matches!(number % 8, 2 | 3) && nth >= whole;
     let told = |(nth, (how, request)): (usize, Made)| {
         let lent: usize = request.lent.iter().sum();
+        let lent = lent.max(request.output.unwrap_or(0));
         let form = match number % 7 == 0 && lent <= LONGEST_FORM {
             true => Form::Long,
             false => Form::Short,
@@ -79,17 +82,17 @@ fn requests_of(number: u64, seed: u64) -> Vec<Asked> {
 /// The accepted one in the tallest bands that can be lent, with just the room; the
 /// others once.
 fn requests_of_full((meant, words): Target) -> Vec<Asked> {
-    let mut asking = Asking::about(words, 0, MOST_LENT);
-    let most_rows = MOST_LENT / asking.subject.width();
-    let height = match meant.code {
-        0 => asking.subject.height(),
-        _ => most_rows,
-    };
-    for first in (0..height).step_by(most_rows) {
-        let rows = most_rows.min(height - first);
-        let lent = asking.subject.room(rows);
-        for coloured in [false, true] {
-            asking.ask("tallest bands", coloured, (first as u64, rows as u64), lent);
+    let mut asking = Asking::about(words, 0, MOST);
+    for coloured in [false, true] {
+        for as_text in [false, true] {
+            for (first, rows) in tallest_bands(&asking, meant.code, coloured, as_text) {
+                let (band, lent) = ((first as u64, rows as u64), asking.subject.room(rows));
+                let output = asking.subject.output_room(rows, coloured);
+                match as_text {
+                    true => asking.ask_text("tallest bands", coloured, band, lent, output),
+                    false => asking.ask("tallest bands", coloured, band, lent),
+                }
+            }
         }
     }
     let told = |(how, request): Made| {
@@ -99,67 +102,100 @@ fn requests_of_full((meant, words): Target) -> Vec<Asked> {
     asking.requests.into_iter().map(told).collect()
 }
 
+/// First row and rows of each.
+fn tallest_bands(asking: &Asking, code: u32, coloured: bool, as_text: bool) -> Vec<(usize, usize)> {
+    let by_words = MOST.words / asking.subject.width();
+    let most_rows = match as_text {
+        true => by_words.min(MOST.bytes / asking.subject.output_room(1, coloured)),
+        false => by_words,
+    };
+    let height = match code {
+        0 => asking.subject.height(),
+        _ => most_rows,
+    };
+    let firsts = (0..height).step_by(most_rows);
+    firsts
+        .map(|first| (first, most_rows.min(height - first)))
+        .collect()
+}
+
 // ---- The end of a stream -------------------------------------------------
 
-/// Streams that end inside a request or hold one that is over a limit, and one that
-/// holds the largest; the program may not be led to answer more.
+/// Streams that end inside a request or hold one that is over a limit, and two that
+/// hold the largest; the program may not be led to answer more.
 fn endings() -> Vec<Vec<Asked>> {
-    let mut ends = vec![Vec::new(), vec![largest(), whole()]];
-    let bytes = bytes(&whole_request(), Form::Long);
-    for cut in [
-        1,
-        4,
-        11,
-        HEAD_WORDS * 4 - 1,
-        HEAD_WORDS * 4,
-        bytes.len() - 1,
-    ] {
-        let made = format!("broken off after {cut} bytes");
-        ends.push(vec![whole(), unread(bytes[..cut].to_vec(), made)]);
-    }
-    for (place, value) in [
-        (0, LONGEST_IMAGE as u32 + 1),
-        (0, u32::MAX),
-        (1, 4),
-        (1, 1 << 31),
-        (6, MOST_LENT as u32 + 1),
-        (7, MOST_LENT as u32 + 1),
-        (8, MOST_LENT as u32 + 1),
-        (9, MOST_LENT as u32 + 1),
-        (9, u32::MAX),
-        (10, 1),
-        (11, 1),
-    ] {
-        let mut over = bytes.clone();
-        over[4 * place..][..4].copy_from_slice(&value.to_be_bytes());
-        over.extend(&bytes);
-        let made = format!("word {place} is {value}");
-        ends.push(vec![whole(), unread(over, made)]);
+    let mut ends = vec![
+        Vec::new(),
+        vec![largest(None), whole(None)],
+        vec![largest(Some(MOST.bytes)), whole(Some(60))],
+    ];
+    for output in [None, Some(60)] {
+        let bytes = bytes(&whole_request(output), Form::Long);
+        for cut in [
+            1,
+            4,
+            11,
+            HEAD_WORDS * 4 - 1,
+            HEAD_WORDS * 4,
+            bytes.len() - 1,
+        ] {
+            let made = format!("broken off after {cut} bytes");
+            ends.push(vec![whole(output), unread(bytes[..cut].to_vec(), made)]);
+        }
+        for (place, value) in over_limits(output.is_some()) {
+            let mut over = bytes.clone();
+            over[4 * place..][..4].copy_from_slice(&value.to_be_bytes());
+            over.extend(&bytes);
+            let made = format!("word {place} is {value}");
+            ends.push(vec![whole(output), unread(over, made)]);
+        }
     }
     ends
 }
 
-/// A sheet of two cells that holds nothing, coloured.
-fn whole_request() -> Request {
+/// Words of a request that make it one which is not to be answered. Bytes of an output are
+/// lent for a text alone.
+fn over_limits(is_text: bool) -> Vec<(usize, u32)> {
+    let words = MOST.words as u32 + 1;
+    let bytes = if is_text { MOST.bytes as u32 + 1 } else { 1 };
+    vec![
+        (0, LONGEST_IMAGE as u32 + 1),
+        (0, u32::MAX),
+        (1, 8),
+        (1, 1 << 31),
+        (6, words),
+        (7, words),
+        (8, words),
+        (9, words),
+        (9, u32::MAX),
+        (10, bytes),
+        (10, u32::MAX),
+        (11, 1),
+    ]
+}
+
+/// A sheet of two cells that holds nothing, coloured; with so many bytes of output as text.
+fn whole_request(output: Option<usize>) -> Request {
     let words = [&[2, 1][..], &[0; 10]].concat();
     Request {
         subject: Rc::new(Subject::painted(words)),
         coloured: true,
+        output,
         first: 0,
         rows: 1,
         lent: [3, 2, 4, 1],
     }
 }
 
-fn whole() -> Asked {
-    asked(whole_request(), Form::Long, "two cells")
+fn whole(output: Option<usize>) -> Asked {
+    asked(whole_request(output), Form::Long, "two cells")
 }
 
-fn largest() -> Asked {
+fn largest(output: Option<usize>) -> Asked {
     let request = Request {
         subject: Rc::new(Subject::checked(vec![0; LONGEST_IMAGE])),
-        lent: [MOST_LENT; 4],
-        ..whole_request()
+        lent: [MOST.words; 4],
+        ..whole_request(output)
     };
     let made = "the longest image and the longest buffers";
     asked(request, Form::Short, made)

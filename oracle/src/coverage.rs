@@ -1,6 +1,7 @@
 //! What the images of a comparison held: of each kind of thing, in how many painted
 //! images it stood.
 
+use crate::as_text::CONTINUATION;
 use crate::image::{Image, NodeLook, Path, Span, Weight};
 #[cfg(product)]
 use std::io::{self, Write};
@@ -64,9 +65,6 @@ fn features() -> impl Iterator<Item = &'static str> {
     let rest = groups.into_iter().flatten().copied();
     PATHS.into_iter().flatten().chain(rest)
 }
-
-/// The continuation of a wide character: text, and bit 21 alone.
-const CONTINUATION: u32 = 1 << 30 | 1 << 21;
 
 /// In how many images each feature stood.
 #[derive(Clone)]

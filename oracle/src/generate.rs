@@ -122,10 +122,30 @@ fn random_extent(dice: &mut Dice) -> u32 {
     }
 }
 
+/// Any colour, often one at the edges of the kinds of sequences by which a text shows
+/// colours, and of how many digits these have.
 fn random_colour(dice: &mut Dice) -> u32 {
+    const NOTABLE: [u32; 16] = [
+        1,
+        7,
+        8,
+        9,
+        10,
+        99,
+        100,
+        255,
+        256,
+        0x0009_0A63,
+        0x0064_FF00,
+        0x00FF_FFFF,
+        0x0100_0000,
+        0x0100_0001,
+        0xFF00_0000,
+        u32::MAX,
+    ];
     match dice.below(4) {
         0 => 0,
-        1 => u32::MAX,
+        1 => dice.pick(&NOTABLE),
         2 => dice.below(256),
         _ => dice.any_word(),
     }
@@ -134,11 +154,12 @@ fn random_colour(dice: &mut Dice) -> u32 {
 // ---- Glyphs and their widths ---------------------------------------------
 
 /// Any glyph, mostly ones which the likely ranges make wide or of width 0, which
-/// the painters write themselves, or which stand just beside what is no glyph.
+/// the painters write themselves, which stand just beside what is no glyph, or at which
+/// another number of bytes begins.
 fn random_glyph(dice: &mut Dice) -> u32 {
-    const NOTABLE: [u32; 18] = [
+    const NOTABLE: [u32; 22] = [
         0x6F22, 0x5B57, 0x0301, 0x0308, 0x200D, 0xAC00, 0x1F600, 0x0020, 0x0022, 0x005B, 0x005D,
-        0x007E, 0x00A0, 0x00A1, 0xD7FF, 0xE000, 0x10FFFF, 0x2500,
+        0x007E, 0x00A0, 0x00A1, 0xD7FF, 0xE000, 0x10FFFF, 0x2500, 0x07FF, 0x0800, 0xFFFF, 0x10000,
     ];
     match dice.below(10) {
         0..=4 => 0x20 + dice.below(0x5F),

@@ -6,6 +6,8 @@
 
 extern crate alloc;
 
+#[cfg(original)]
+mod as_text;
 mod asking;
 #[cfg(original)]
 mod band_requests;
@@ -27,6 +29,8 @@ mod dice;
 mod draft;
 #[cfg(original)]
 mod engine;
+#[cfg(original)]
+mod every_stroke;
 mod full;
 mod generate;
 #[cfg(original)]
@@ -51,6 +55,8 @@ mod stored;
 mod structured;
 #[cfg(original)]
 mod stubs;
+#[cfg(original)]
+mod text_coverage;
 #[cfg(original)]
 mod vectors;
 

@@ -1,13 +1,14 @@
 //! `paint-cases`: named requests to the program `paintlines`, which reads them as its
-//! stored standard input. What it must answer is what the original paints and what
-//! the slow check refuses.
+//! stored standard input. What it must answer is what the original paints, the text of
+//! that, and what the slow check refuses.
 //!
-//! Each case also states its code and place, worked out by hand from how it is
-//! made, so that a case cannot quietly come to test something else.
+//! Each case also states its code and place, some their text, worked out by hand from how
+//! they are made, so that a case cannot quietly come to test something else.
 
 mod bands;
 mod edges;
 mod refused;
+mod text;
 mod things;
 mod together;
 
@@ -19,6 +20,7 @@ use crate::generate::accepted;
 use crate::paintlines::{answer, bytes, Form};
 use crate::requests::{Request, Subject};
 use crate::stored::{self, Stored};
+use crate::text_coverage::TextCoverage;
 use crate::wrong_use;
 use std::collections::BTreeSet;
 use std::io::{self, Write as _};
@@ -34,6 +36,8 @@ struct Case {
     form: Form,
     /// Code and place.
     stated: (u32, u32),
+    /// The text, where it is stated too.
+    drawing: Option<&'static str>,
 }
 
 #[derive(Default)]
@@ -49,7 +53,16 @@ impl Cases {
             request,
             form,
             stated,
+            drawing: None,
         });
+    }
+
+    /// A band that is written as this text.
+    fn ask_drawn(&mut self, name: impl Into<String>, request: Request, drawing: &'static str) {
+        self.ask(name, request, (0, 0));
+        if let Some(last) = self.list.last_mut() {
+            last.drawing = Some(drawing);
+        }
     }
 
     /// A band that is painted, in the short form.
@@ -85,6 +98,7 @@ fn band(subject: Rc<Subject>, coloured: bool, (first, rows): (usize, usize)) -> 
     Request {
         subject,
         coloured,
+        output: None,
         first: first as u64,
         rows: rows as u64,
         lent,
@@ -99,6 +113,7 @@ fn all_cases() -> Vec<Case> {
     together::add(&mut cases);
     bands::add(&mut cases);
     refused::add(&mut cases);
+    text::add(&mut cases);
     cases.list
 }
 
@@ -126,7 +141,7 @@ pub fn command(options: &[String]) -> io::Result<ExitCode> {
         return Ok(wrong_use("paint-cases [--write]"));
     };
     let cases = all_cases();
-    let faults = [faults_of(&cases), gaps_of(&cases)].concat();
+    let faults = [faults_of(&cases), gaps_of(&cases), gaps_of_texts(&cases)].concat();
     if stored::write_faults(&faults)? {
         return Ok(ExitCode::FAILURE);
     }
@@ -137,7 +152,7 @@ pub fn command(options: &[String]) -> io::Result<ExitCode> {
     stored_of(&cases).finish(writes, "requests")
 }
 
-/// Where a case states another code or place, and names given twice.
+/// Where a case states another code, place or text, and names given twice.
 fn faults_of(cases: &[Case]) -> Vec<String> {
     let mut faults = stored::repeated(cases.iter().map(|case| &case.name));
     for case in cases {
@@ -148,6 +163,11 @@ fn faults_of(cases: &[Case]) -> Vec<String> {
                 "{name}: {stated:?} is stated, {answered:?} answered"
             ));
         }
+        let text = String::from_utf8(case.request.text());
+        let is_drawn = |drawing: &str| text.as_deref() == Ok(drawing);
+        if case.drawing.is_some_and(|drawing| !is_drawn(drawing)) {
+            faults.push(format!("{}: the text is {text:?}", case.name));
+        }
     }
     faults
 }
@@ -156,9 +176,9 @@ fn faults_of(cases: &[Case]) -> Vec<String> {
 /// policy and width, and bands of several heights.
 fn gaps_of(cases: &[Case]) -> Vec<String> {
     let mut gaps = Vec::new();
-    for (kind, coloured) in [("plain", false), ("coloured", true)] {
+    for kind in ["plain", "coloured"] {
         let painted = cases.iter().map(|case| &case.request);
-        let painted = painted.filter(|one| one.coloured == coloured && one.refusal().0 == 0);
+        let painted = painted.filter(|one| one.kind() == kind && one.refusal().0 == 0);
         let mut coverage = Coverage::none();
         let mut heights = BTreeSet::new();
         for Request { subject, rows, .. } in painted {
@@ -178,15 +198,41 @@ fn gaps_of(cases: &[Case]) -> Vec<String> {
     gaps
 }
 
+/// What no case writes as text: each kind of cell, every stroke by its arms, each kind of
+/// colour, and bands of several heights.
+fn gaps_of_texts(cases: &[Case]) -> Vec<String> {
+    let mut coverage = TextCoverage::none();
+    let mut heights = BTreeSet::new();
+    let requests = cases.iter().map(|case| &case.request);
+    let texts = requests.filter(|one| one.output.is_some() && one.refusal().0 == 0);
+    for request in texts {
+        coverage.count(request, &request.text());
+        heights.insert((request.kind(), request.rows));
+    }
+    let kinds = ["plain text", "coloured text"];
+    let bands = kinds.map(|kind| [0, 1, 2, 3, 9].map(|rows| (kind, rows)));
+    let bands = bands.into_iter().flatten();
+    let bands = bands.filter(|band| !heights.contains(band));
+    let bands = bands.map(|(kind, rows)| format!("a band of {rows} rows as {kind}"));
+    let cells = coverage.missing().map(str::to_string);
+    let strokes = coverage.missing_strokes().into_iter();
+    let strokes = strokes.map(|arms| format!("a stroke of the arms {arms}"));
+    cells
+        .chain(strokes)
+        .chain(bands)
+        .map(|what| format!("no case writes: {what}"))
+        .collect()
+}
+
 /// The stream ends inside a request, so the last line is `unread`.
 fn stored_of(cases: &[Case]) -> Stored {
     let mut stored = Stored::of("paint-cases", "paintlines");
     for case in cases {
-        let (code, place) = case.stated;
-        let told = format!("{code} {place}");
         let (request, form) = (&case.request, case.form);
         let (asked, answered) = (bytes(request, form), answer(request, form));
-        stored.take(&case.name, &asked, &answered, &told);
+        // Code and place, of a text the bytes too.
+        let told = answered.lines().next().unwrap_or_default();
+        stored.take(&case.name, &asked, &answered, told);
     }
     let name = "a request that breaks off inside the last word of its image";
     let mut broken_off = bytes(&cases[0].request, Form::Long);

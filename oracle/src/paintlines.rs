@@ -2,6 +2,7 @@
 //! must be answered to it.
 
 use crate::asking::{bytes_of, Asked};
+use crate::band_requests::Most;
 use crate::codes::{nth_of, PAINT_CODES};
 use crate::hex_row;
 use crate::requests::{Request, BUFFER_NAMES};
@@ -12,11 +13,16 @@ pub const PROGRAM: &str = "PIVOTDAWN_PAINTLINES";
 /// Words of a request before the image.
 pub const HEAD_WORDS: usize = 12;
 
-/// The program answers `unread` where more words of a buffer are to be lent.
-pub const MOST_LENT: usize = 147_456;
+/// The program answers `unread` where more words of a buffer, or bytes of an output, are to
+/// be lent.
+pub const MOST: Most = Most {
+    words: 147_456,
+    bytes: 1_048_576,
+};
 
 const COLOURED_BIT: u32 = 1;
 const SHORT_BIT: u32 = 2;
+const TEXT_BIT: u32 = 4;
 
 /// How the buffers stand in an answer.
 #[derive(Clone, Copy, PartialEq, Eq)]
@@ -30,8 +36,11 @@ pub enum Form {
 /// A request as it stands in the stream.
 pub fn bytes(request: &Request, form: Form) -> Vec<u8> {
     let halves = |number: u64| [(number >> 32) as u32, number as u32];
-    let is_short = form == Form::Short;
-    let flags = [(request.coloured, COLOURED_BIT), (is_short, SHORT_BIT)];
+    let flags = [
+        (request.coloured, COLOURED_BIT),
+        (form == Form::Short, SHORT_BIT),
+        (request.output.is_some(), TEXT_BIT),
+    ];
     let flags = flags.iter().filter(|(is_set, _)| *is_set);
     let words = &request.subject.words;
     let head = [
@@ -39,7 +48,7 @@ pub fn bytes(request: &Request, form: Form) -> Vec<u8> {
         &halves(request.first),
         &halves(request.rows),
         &request.lent.map(|count| count as u32),
-        &[0, 0],
+        &[request.output.unwrap_or(0) as u32, 0],
     ];
     bytes_of(&[&head.concat(), &words[..]].concat())
 }
@@ -47,17 +56,43 @@ pub fn bytes(request: &Request, form: Form) -> Vec<u8> {
 /// The lines that must be answered.
 pub fn answer(request: &Request, form: Form) -> String {
     let (code, place) = request.refusal();
+    let text = request.text();
     let mut lines = format!("{code} {place}");
+    if request.output.is_some() {
+        lines += &format!(" {}", text.len());
+    }
     for buffer in request.buffers() {
         let words = request.words_after(*buffer);
-        lines += &format!("\n{}", BUFFER_NAMES[*buffer]);
-        match (form, words.is_empty()) {
-            (Form::Short, _) => lines += &format!(" {:08X}", checksum(&words)),
-            (Form::Long, true) => {}
-            (Form::Long, false) => lines += &format!(" {}", hex_row(&words)),
-        }
+        let numbers = words.iter().map(|word| u64::from(*word));
+        let shown = shown(form, numbers, || hex_row(&words));
+        lines += &format!("\n{}{shown}", BUFFER_NAMES[*buffer]);
+    }
+    if request.output.is_some() {
+        let bytes = request.bytes_after(&text);
+        let numbers = bytes.iter().map(|byte| u64::from(*byte));
+        let shown = shown(form, numbers, || hex_bytes(&bytes));
+        lines += &format!("\nout{shown}");
     }
     lines
+}
+
+/// What stands after the name of a buffer.
+fn shown(
+    form: Form,
+    numbers: impl ExactSizeIterator<Item = u64>,
+    in_hex: impl Fn() -> String,
+) -> String {
+    match (form, numbers.len()) {
+        (Form::Short, _) => format!(" {:08X}", checksum(numbers)),
+        (Form::Long, 0) => String::new(),
+        (Form::Long, _) => format!(" {}", in_hex()),
+    }
+}
+
+/// Bytes as two upper-case hex digits each, single-spaced.
+fn hex_bytes(bytes: &[u8]) -> String {
+    let hex: Vec<String> = bytes.iter().map(|byte| format!("{byte:02X}")).collect();
+    hex.join(" ")
 }
 
 /// With how it was made, and the long form to look closer.
@@ -77,8 +112,6 @@ pub fn asked(request: Request, form: Form, made: &str) -> Asked {
     }
 }
 
-fn checksum(words: &[u32]) -> u64 {
-    words.iter().fold(0, |sum, word| {
-        (31 * sum + u64::from(*word) + 1) % 4_294_967_291
-    })
+fn checksum(numbers: impl Iterator<Item = u64>) -> u64 {
+    numbers.fold(0, |sum, number| (31 * sum + number + 1) % 4_294_967_291)
 }

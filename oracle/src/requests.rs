@@ -1,9 +1,11 @@
-//! Bands of an image that painting is asked for, and what must be answered: code and
-//! place, and every word of each lent buffer. The check's refusals come from the slow
-//! check, 11 and 12 and all that is not painted from document 01's own words, cells
-//! and colours from the original. Whoever asks, the program or the library, is held
-//! against this.
+//! Bands of an image that painting is asked for, as cells alone or as text too, and what must
+//! be answered: code and place, and every word of each lent buffer; of a text, how many
+//! bytes were written, and every byte of the output. The check's refusals come from the slow
+//! check, 11, 12 and 20 and all that is not painted from the documents' own words, cells
+//! and colours from the original, and the text of them from `as_text.rs`. Whoever asks, the
+//! program or the library, is held against this.
 
+use crate::as_text::{output_room, text_of};
 use crate::layout::room;
 use crate::paint::{paint_both, Sheet};
 use crate::slow_check::{slow_check, Answer};
@@ -79,17 +81,24 @@ impl Subject {
         room(&self.words, rows)
     }
 
+    /// What its text wants of the output.
+    pub fn output_room(&self, rows: usize, coloured: bool) -> usize {
+        output_room(self.width(), rows, coloured)
+    }
+
     /// The cells of the whole sheet; none where it is not painted.
     pub fn cells(&self) -> &[u32] {
         self.pictures.as_ref().map_or(&[], |both| &both[0].cells)
     }
 }
 
-/// A band that is asked for, and the words that are lent for it.
+/// A band that is asked for, and what is lent for it.
 #[derive(Clone)]
 pub struct Request {
     pub subject: Rc<Subject>,
     pub coloured: bool,
+    /// Bytes lent of the output, where the band is asked for as text.
+    pub output: Option<usize>,
     pub first: u64,
     pub rows: u64,
     /// Words lent of each buffer. A plain request says four numbers too, and lends
@@ -107,8 +116,31 @@ impl Request {
         }
     }
 
-    /// Code and place; 0 and 0 where the band is painted.
+    /// As text or not, plain or coloured: which of the four kinds it is.
+    pub fn kind(&self) -> &'static str {
+        match (self.output.is_some(), self.coloured) {
+            (false, false) => "plain",
+            (false, true) => "coloured",
+            (true, false) => "plain text",
+            (true, true) => "coloured text",
+        }
+    }
+
+    /// Code and place; 0 and 0 where the band is painted. "20, place 0, output under [the
+    /// room], after all of 01's".
     pub fn refusal(&self) -> (u32, u32) {
+        let by_painting = self.refusal_by_painting();
+        let is_short = |lent: usize| {
+            let rows = self.rows as usize;
+            lent < self.subject.output_room(rows, self.coloured)
+        };
+        match by_painting.0 == 0 && self.output.is_some_and(is_short) {
+            true => (20, 0),
+            false => by_painting,
+        }
+    }
+
+    fn refusal_by_painting(&self) -> (u32, u32) {
         if !self.subject.is_accepted() {
             return (self.subject.answer.code, self.subject.answer.place);
         }
@@ -146,23 +178,65 @@ impl Request {
         if buffer == STAMPS || buffer == SCRATCH || needed.is_empty() {
             return needed.fill(0);
         }
+        needed.copy_from_slice(self.original(buffer));
+    }
+
+    /// The cells or the colours of the band, as the original painted them.
+    fn original(&self, buffer: usize) -> &[u32] {
         let Some([plain, coloured]) = &self.subject.pictures else {
             panic!("rows of an image that was not painted");
         };
-        let from = self.first as usize * self.subject.width();
+        let width = self.subject.width();
         let plane = match (buffer, self.coloured) {
             (CELLS, false) => &plain.cells,
             (CELLS, true) => &coloured.cells,
             _ => &coloured.colours,
         };
-        needed.copy_from_slice(&plane[from..][..needed.len()]);
+        &plane[self.first as usize * width..][..self.rows as usize * width]
+    }
+}
+
+// ---- The text --------------------------------------------------------------
+
+impl Request {
+    /// The text that must be written; none where no text is asked for, or on refusal.
+    pub fn text(&self) -> Vec<u8> {
+        let is_written = self.output.is_some() && self.refusal().0 == 0;
+        if !is_written || self.rows == 0 {
+            return Vec::new();
+        }
+        let colours = self.coloured.then(|| self.original(COLOURS));
+        let (width, rows) = (self.subject.width(), self.rows as usize);
+        text_of(width, rows, self.original(CELLS), colours)
+    }
+
+    /// The cells that are written as text; there must be a text.
+    pub fn painted_cells(&self) -> &[u32] {
+        match self.rows {
+            0 => &[],
+            _ => self.original(CELLS),
+        }
+    }
+
+    /// What the output holds before the call.
+    pub fn bytes_before(&self) -> impl Iterator<Item = u8> {
+        (0..self.output.unwrap_or(0)).map(|place| (0x50 + place) as u8)
+    }
+
+    /// What it must hold after the call that writes this text.
+    pub fn bytes_after(&self, text: &[u8]) -> Vec<u8> {
+        let untouched = self.bytes_before().skip(text.len());
+        text.iter().copied().chain(untouched).collect()
     }
 }
 
 impl std::fmt::Display for Request {
     fn fmt(&self, f: &mut std::fmt::Formatter<'_>) -> std::fmt::Result {
-        let kind = if self.coloured { "coloured" } else { "plain" };
-        let (first, rows, lent) = (self.first, self.rows, self.lent);
-        write!(f, "{kind}, {rows} rows from {first}, lent {lent:?}")
+        let (kind, first, rows, lent) = (self.kind(), self.first, self.rows, self.lent);
+        write!(f, "{kind}, {rows} rows from {first}, lent {lent:?}")?;
+        match self.output {
+            Some(bytes) => write!(f, " and {bytes} bytes"),
+            None => Ok(()),
+        }
     }
 }

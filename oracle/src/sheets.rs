@@ -28,6 +28,7 @@ pub struct Sheet {
 pub fn sheets() -> Vec<Sheet> {
     let drafts = [
         ("small-card", small_card()),
+        ("coloured-card", coloured_card()),
         ("dense", dense()),
         ("tall", tall()),
         ("fan-in", fan_in()),
@@ -91,6 +92,26 @@ fn add_card(draft: &mut Draft) {
     add_edge(draft, [6, 4, 6, 6], DIRECT, 0, [0; 3]);
     add_edge(draft, [10, 7, 17, 7], DIRECT, X_FLOW_BIT, [0; 3]);
     add_edge(draft, [21, 6, 21, 4], DIRECT, 0, [0; 3]);
+}
+
+/// A screen of 80 columns by 24 rows: sixteen named groups, an edge from each to the one
+/// below and to the one beside it, and every border and edge in a colour, one after the other.
+fn coloured_card() -> Draft {
+    const COLOURS: [u32; 8] = [1, 4, 7, 33, 208, 255, 0x0012_3456, 0x00FF_8000];
+    let mut draft = Draft::blank_sheet(80, 24);
+    for nth in 0..16 {
+        let [x, y] = [20 * (nth % 4), 6 * (nth / 4)];
+        add_group(&mut draft, [x, y, 19, 5], "Grease of stage");
+        add_edge(&mut draft, [x + 9, y + 4, x + 9, y + 6], DIRECT, 0, [0; 3]);
+        let ends = [x + 3, y + 3, x + 22, y + 3];
+        add_edge(&mut draft, ends, DIRECT, X_FLOW_BIT, [0; 3]);
+    }
+    for (table, field) in [(SUBGRAPHS, 7), (EDGES, 10)] {
+        for (nth, record) in draft.tables[table].iter_mut().enumerate() {
+            record[field] = COLOURS[nth % COLOURS.len()];
+        }
+    }
+    draft
 }
 
 /// 200 columns by 120 rows: 280 boxes, each with edges of several kinds to the

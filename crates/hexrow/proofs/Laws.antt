@@ -1,13 +1,14 @@
--- What is stored of one word, and a turn of spelling words one after the other, over plain variables.
+-- What is stored of one word or byte, and a turn of spelling them one after the other, over plain variables.
 use native.Mathlib.Omega.{arith}
 use native.Mathlib.Numerals.{add-one}
+use native.Mathlib.Nat.{mul-suc, mul-zero}
 use Prim.Native.Nat.{ℕ, suc, _+_, _*_, _/_, _%_, _≤_, _<_}
 use mathlib.Core.List.{List, [], _∷_, _++_, append-assoc}
 use mathlib.Core.Path.{_≡_, refl, sym, ap, _∙_}
-use lib.ListN.{length, getD, set, take, drop}
+use lib.ListN.{length, getD, set, take, drop, length-append}
 use lib.Seq.{sets-eq, take-suc, take-at, drop-append-add, drop-drop, length-take-le}
 use borrow.Author.Tests.{lt-ltb, le-ltb}
-use Rattle.hexrow.specs.Hex.{digit, hexDigits, spelled}
+use Rattle.hexrow.specs.Hex.{digit, hexDigits, byteDigits, spelledBy}
 
 -- a digit below ten, and one that is a letter
 
@@ -46,42 +47,67 @@ nine-stored text at word a b c d e f g h fits pa pb pc pd pe pf pg ph =
     rw (add-one at, two, three, four, five, six, seven, eight, pa, pb, pc, pd, pe, pf, pg, ph)
     (sets-eq line text at fits ∙ append-assoc (take at text) line (drop (at + 9) text))
 
--- nine bytes for each word
-spelled-length : (words : List ℕ) → length (spelled words) ≡ 9 * length words
-unfolding spelled hexDigits
-spelled-length [] = refl
-spelled-length (w ∷ ws) = let e : length (spelled ws) ≡ 9 * length ws = spelled-length ws in omega arith
+-- three stores one after the other
+pub three-stored :
+    (text : List ℕ) (at byte n a b : ℕ) →
+    at + 3 ≤ length text →
+    n ≡ byte →
+    a ≡ digit (n / 16) →
+    b ≡ digit (n % 16) →
+    set (set (set text at a) (at + 1) b) (at + 2) 32 ≡ take at text ++ (byteDigits byte ++ (32 ∷ drop (at + 3) text))
+unfolding byteDigits
+three-stored text at byte n a b fits same pa pb =
+    let line : List ℕ = byteDigits byte ++ (32 ∷ []) in
+    let two : at + 2 ≡ suc (suc at) = omega arith in
+    rw (add-one at, two, pa, pb, same) (sets-eq line text at fits ∙ append-assoc (take at text) line (drop (at + 3) text))
 
-spelled-one-more : (words : List ℕ) (w : ℕ) (rest : List ℕ) → spelled (words ++ (w ∷ [])) ++ rest ≡ spelled words ++ (hexDigits w ++ (32 ∷ rest))
-unfolding spelled
-spelled-one-more [] w rest = simp append-assoc
-spelled-one-more (v ∷ vs) w rest = simp append-assoc (rw (spelled-one-more vs w rest))
+-- nine bytes for each word, three for each byte
 
--- a turn spells one word
-pub one-more :
-    (words start text after : List ℕ) (k : ℕ) →
-    text ≡ spelled (take k words) ++ drop (9 * k) start →
-    after ≡ take (9 * k) text ++ (hexDigits (getD words k 0) ++ (32 ∷ drop (9 * k + 9) text)) →
-    k < length words →
-    after ≡ spelled (take (k + 1) words) ++ drop (9 * (k + 1)) start
-one-more words start text after k i stored h =
-    let front : List ℕ = spelled (take k words) in
-    let long : length front ≡ 9 * k = spelled-length (take k words) ∙ ap (λ (n : ℕ). 9 * n) (length-take-le k words (omega arith)) in
-    let kept : take (9 * k) text ≡ front = rw i (take-at front (drop (9 * k) start) (9 * k) long) in
-    let next : 9 * (k + 1) ≡ 9 * k + 9 = omega arith in
-    let beyond : drop (9 * k + 9) text ≡ drop (9 * k + 9) start =
-    rw (i, ← long) (drop-append-add front _ 9 ∙ drop-drop 9 (length front) start)
-    in
-    stored ∙ rw (kept, beyond, next, add-one k, take-suc words k 0 h) (sym (spelled-one-more (take k words) (getD words k 0) _))
+pub nine-long : (w : ℕ) → suc (length (hexDigits w)) ≡ 9
+unfolding hexDigits
+nine-long w = refl
+
+pub three-long : (b : ℕ) → suc (length (byteDigits b)) ≡ 3
+unfolding byteDigits
+three-long b = refl
+
+-- One number after the other, each of so many digits: `size` counts the space too.
+module _ (digits : ℕ → List ℕ) (size : ℕ) (long : (n : ℕ) → suc (length (digits n)) ≡ size) where
+  spelled-length : (ns : List ℕ) → length (spelledBy digits ns) ≡ size * length ns
+  unfolding spelledBy
+  spelled-length [] = sym (mul-zero size)
+  spelled-length (n ∷ ns) = rw (length-append, spelled-length ns, mul-suc) (omega (arith, long n))
+
+  spelled-one-more : (ns : List ℕ) (n : ℕ) (rest : List ℕ) → spelledBy digits (ns ++ (n ∷ [])) ++ rest ≡ spelledBy digits ns ++ (digits n ++ (32 ∷ rest))
+  unfolding spelledBy
+  spelled-one-more [] n rest = simp append-assoc
+  spelled-one-more (m ∷ ms) n rest = simp append-assoc (rw (spelled-one-more ms n rest))
+
+  -- a turn spells one number
+  pub one-more :
+      (ns start text after : List ℕ) (k : ℕ) →
+      text ≡ spelledBy digits (take k ns) ++ drop (size * k) start →
+      after ≡ take (size * k) text ++ (digits (getD ns k 0) ++ (32 ∷ drop (size * k + size) text)) →
+      k < length ns →
+      after ≡ spelledBy digits (take (k + 1) ns) ++ drop (size * (k + 1)) start
+  one-more ns start text after k i stored h =
+      let front : List ℕ = spelledBy digits (take k ns) in
+      let reach : length front ≡ size * k = spelled-length (take k ns) ∙ ap (λ (n : ℕ). size * n) (length-take-le k ns (omega arith)) in
+      let kept : take (size * k) text ≡ front = rw i (take-at front (drop (size * k) start) (size * k) reach) in
+      let next : size * (k + 1) ≡ size * k + size = rw (add-one k) (mul-suc size k) in
+      let beyond : drop (size * k + size) text ≡ drop (size * k + size) start =
+      rw (i, ← reach) (drop-append-add front _ size ∙ drop-drop size (length front) start)
+      in
+      stored ∙ rw (kept, beyond, next, add-one k, take-suc ns k 0 h) (sym (spelled-one-more (take k ns) (getD ns k 0) _))
 
 -- after the last turn all that have room are spelled
 pub all-spelled :
-    (words start text : List ℕ) (k count n : ℕ) →
-    text ≡ spelled (take k words) ++ drop (9 * k) start →
+    (digits : ℕ → List ℕ) (size : ℕ) (ns start text : List ℕ) (k count n : ℕ) →
+    text ≡ spelledBy digits (take k ns) ++ drop (size * k) start →
     count ≡ n →
     k ≤ count →
     count ≤ k →
-    text ≡ spelled (take n words) ++ drop (9 * n) start
-all-spelled words start text k count n i e p q =
+    text ≡ spelledBy digits (take n ns) ++ drop (size * n) start
+all-spelled digits size ns start text k count n i e p q =
     let last : k ≡ n = omega arith in
     rw last at i

@@ -1,4 +1,4 @@
--- "each cell eight upper-case hex digits, single-spaced"
+-- "each cell eight upper-case hex digits, single-spaced"; bytes in the same form
 use Prim.Native.Nat.{ℕ, _+_, _/_, _%_, min}
 use mathlib.Core.Bool.{cond}
 use mathlib.Core.List.{List, [], _∷_, _++_}
@@ -22,11 +22,25 @@ hexDigits w =
     ∷ digit (w % 16)
     ∷ []
 
--- each word's digits and a space, which is 32
-unfoldable pub spelled : List ℕ → List ℕ
-spelled [] = []
-spelled (w ∷ ws) = hexDigits w ++ (32 ∷ spelled ws)
+-- each number's digits and a space, which is 32
+unfoldable pub spelledBy : (ℕ → List ℕ) → List ℕ → List ℕ
+spelledBy digits [] = []
+spelledBy digits (n ∷ ns) = digits n ++ (32 ∷ spelledBy digits ns)
+
+abbrev pub spelled : List ℕ → List ℕ
+spelled words = spelledBy hexDigits words
 
 -- how many words have room in the text, nine bytes for each
 abbrev pub wordsWithRoom : List ℕ → List ℕ → ℕ
 wordsWithRoom words text = min (length words) (length text / 9)
+
+-- the same of bytes: two digits, so three bytes of text for each
+
+unfoldable pub byteDigits : ℕ → List ℕ
+byteDigits b = digit (b / 16) ∷ digit (b % 16) ∷ []
+
+abbrev pub spelledBytes : List ℕ → List ℕ
+spelledBytes bytes = spelledBy byteDigits bytes
+
+abbrev pub bytesWithRoom : List ℕ → List ℕ → ℕ
+bytesWithRoom bytes text = min (length bytes) (length text / 3)

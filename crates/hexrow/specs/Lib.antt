@@ -1,2 +1,2 @@
--- Words as text.
+-- Words and bytes as text.
 pub mod Hex

@@ -1,9 +1,9 @@
-// Words as text: "each cell eight upper-case hex digits, single-spaced".
+// Words as text: "each cell eight upper-case hex digits, single-spaced"; and bytes, two digits each.
 ghost use mathlib.Core.Path.{_≡_};
 ghost use mathlib.Core.List.{_∷_, _++_};
 ghost use Prim.Native.Nat.{_+_, _*_, _≤_, _<_};
 ghost use lib.ListN.{length, take, drop};
-ghost use Rattle.hexrow.specs.Hex.{digit, hexDigits, spelled, wordsWithRoom};
+ghost use Rattle.hexrow.specs.Hex.{digit, hexDigits, spelled, wordsWithRoom, byteDigits, spelledBytes, bytesWithRoom};
 
 // How many bytes a word takes: eight digits, and what stands after them.
 pub const WORD_BYTES: usize = 9;
@@ -44,4 +44,39 @@ pub fn spell(words: &[u32], text: &mut [u8]) -> usize
         k += 1;
     }
     WORD_BYTES * count
+}
+
+// How many bytes of text a byte takes: two digits, and what stands after them.
+pub const BYTE_BYTES: usize = 3;
+
+// A byte as the number that digits are made of.
+fn number(b: u8) -> u32
+    ensures { λ r. ⌜ (r ≡ b) × (r < 256) ⌝ }
+{
+    b as u32
+}
+
+// The digits of a byte from a place of the text on, and a space.
+fn spell_byte(byte: u8, text: &mut [u8], at: usize)
+    requires { ⌜ at + 3 ≤ length (now text) ⌝ }
+    ensures { λ _. ⌜ now (text .exit) ≡ take at (now (text .entry)) ++ (byteDigits byte ++ (32 ∷ drop (at + 3) (now (text .entry)))) ⌝ }
+{
+    let n = number(byte);
+    text[at] = digit(n / 16);
+    text[at + 1] = digit(n % 16);
+    text[at + 2] = b' ';
+}
+
+// As many bytes as have room, each with a space after it; answers how many bytes of text they take.
+pub fn spell_bytes(bytes: &[u8], text: &mut [u8]) -> usize
+    ensures { λ r. ⌜ r ≡ 3 * bytesWithRoom (now (bytes .entry)) (now (text .entry)) ⌝ }
+    ensures { λ r. ⌜ now (text .exit) ≡ spelledBytes (take (bytesWithRoom (now (bytes .entry)) (now (text .entry))) (now (bytes .entry))) ++ drop (3 * bytesWithRoom (now (bytes .entry)) (now (text .entry))) (now (text .entry)) ⌝ }
+{
+    let count = ground::min(bytes.len(), text.len() / BYTE_BYTES);
+    let mut k: usize = 0;
+    while k < count {
+        spell_byte(bytes[k], text, BYTE_BYTES * k);
+        k += 1;
+    }
+    BYTE_BYTES * count
 }

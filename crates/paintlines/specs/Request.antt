@@ -15,12 +15,17 @@ mostWords = 131072
 abbrev pub mostLent : ℕ
 mostLent = 147456
 
+-- the most bytes lent of the output
+abbrev pub mostOutput : ℕ
+mostOutput = 1048576
+
 pub record HasRoom (r : Request) : Type 0 where
   pub words : r .words ≤ mostWords
   pub cells : r .cells ≤ mostLent
   pub colours : r .colours ≤ mostLent
   pub stamps : r .stamps ≤ mostLent
   pub scratch : r .scratch ≤ mostLent
+  pub output : r .output ≤ mostOutput
 
 abbrev pub Fitting : Next → Type 0
 Fitting (Asked r) = HasRoom r
@@ -28,11 +33,12 @@ Fitting End = Unit {0}
 Fitting Unread = Unit {0}
 
 -- the buffers that parts are lent of
-abbrev pub Planes : List ℕ → List ℕ → List ℕ → List ℕ → Type 0
-Planes cells colours stamps scratch =
+abbrev pub Planes : List ℕ → List ℕ → List ℕ → List ℕ → List ℕ → Type 0
+Planes cells colours stamps scratch out =
     (length cells ≡ mostLent) × (length colours ≡ mostLent) × (length stamps ≡ mostLent) × (length scratch ≡ mostLent)
+    × (length out ≡ mostOutput)
 
 -- all that a request is answered in
-abbrev pub Buffers : List ℕ → List ℕ → List ℕ → List ℕ → List ℕ → List ℕ → Type 0
-Buffers bytes image cells colours stamps scratch =
-    (length bytes ≡ 4 * mostWords) × (length image ≡ mostWords) × Planes cells colours stamps scratch
+abbrev pub Buffers : List ℕ → List ℕ → List ℕ → List ℕ → List ℕ → List ℕ → List ℕ → Type 0
+Buffers bytes image cells colours stamps scratch out =
+    (length bytes ≡ 4 * mostWords) × (length image ≡ mostWords) × Planes cells colours stamps scratch out

@@ -1,9 +1,9 @@
 // What a lent buffer holds before each request, and the checksum that stands for it in the short form.
 ghost use mathlib.Core.Path.{_≡_};
-ghost use Prim.Native.Nat.{_≤_};
+ghost use Prim.Native.Nat.{_≤_, _<_};
 ghost use lib.ListN.{length};
-ghost use Rattle.paintlines.specs.Lent.{pattern, checksum};
-ghost use Rattle.paintlines.specs.Request.{mostLent};
+ghost use Rattle.paintlines.specs.Lent.{pattern, outputPattern, checksum};
+ghost use Rattle.paintlines.specs.Request.{mostLent, mostOutput};
 
 // The buffers by their places in refusal 12.
 
@@ -28,6 +28,18 @@ pub fn fill_pattern(buffer: usize, lent: &mut [u32])
     }
 }
 
+// Every byte of the output as it stands before a request.
+pub fn fill_output(out: &mut [u8])
+    requires { ⌜ length (now out) ≤ mostOutput ⌝ }
+    ensures { λ _. ⌜ now (out .exit) ≡ outputPattern (length (now (out .entry))) ⌝ }
+{
+    let mut k: usize = 0;
+    while k < out.len() {
+        out[k] = ((0x50 + k) % 256) as u8;
+        k += 1;
+    }
+}
+
 // Sums are made below this prime.
 const PRIME: usize = 4294967291;
 
@@ -38,6 +50,26 @@ pub fn checksum(words: &[u32]) -> u32
     let mut k: usize = 0;
     while k < words.len() {
         sum = (31 * sum + ground::number(words[k]) + 1) % PRIME;
+        k += 1;
+    }
+    sum as u32
+}
+
+// A byte as a number, so that no sum wraps.
+fn number(b: u8) -> usize
+    ensures { λ r. ⌜ (r ≡ b) × (r < 256) ⌝ }
+{
+    b as usize
+}
+
+// The checksum of bytes.
+pub fn byte_checksum(bytes: &[u8]) -> u32
+    ensures { λ r. ⌜ r ≡ checksum (now (bytes .entry)) ⌝ }
+{
+    let mut sum: usize = 0;
+    let mut k: usize = 0;
+    while k < bytes.len() {
+        sum = (31 * sum + number(bytes[k]) + 1) % PRIME;
         k += 1;
     }
     sum as u32

@@ -1,22 +1,27 @@
-// For each request of a stream on standard input, what painting answers and every lent word afterwards. Words are of four bytes, the most significant first.
+// For each request of a stream on standard input, what painting answers and every lent word and byte afterwards. Words are of four bytes, the most significant first.
 //
 // A request is twelve words and the words of an image:
 // 0: how many words the image has, at most 131,072
-// 1: flags, bit 0 for coloured and bit 1 for the short form
+// 1: flags, bit 0 for coloured, bit 1 for the short form and bit 2 for text
 // 2 and 3: the first row, its high word and its low word
 // 4 and 5: how many rows, high word and low word
 // 6 to 9: how many words are lent of cells, colours, stamps and scratch, each at most 147,456
-// 10 and 11: 0
-// A plain request is lent cells and scratch alone. Before each request word i of lent buffer b (1 cells, 2 colours, 3 stamps, 4 scratch) holds 0x50000000 + 0x1000000 b + i.
+// 10: how many bytes are lent of the output, at most 1,048,576; 0 where no text is asked for
+// 11: 0
+// A plain request is lent cells and scratch alone, a request for text the output besides. Before each request word i of lent buffer b (1 cells, 2 colours, 3 stamps, 4 scratch) holds
+// 0x50000000 + 0x1000000 b + i, and byte i of the output (0x50 + i) mod 256.
 //
-// The answer is a line with code and place, and a line for each lent buffer: its name, and its words as eight upper-case hex digits each, single-spaced; or in the short form its name and one
-// checksum, also as hex digits: h begins as 0 and becomes (31 h + w + 1) mod 4294967291 for each word w.
-// A request over a limit, or with another flag, or with a word 10 or 11 that is not 0, and a stream that breaks off inside a request, end the answers with `unread`.
+// The answer is a line with code and place, for text also the number of bytes written, and a line for each lent buffer: its name, and its words as eight upper-case hex digits each, single-spaced;
+// or in the short form its name and one checksum, also as hex digits: h begins as 0 and becomes (31 h + w + 1) mod 4294967291 for each word w. The output is the last of them, named `out`: its
+// bytes are two digits each, and its checksum goes over bytes.
+// A request over a limit, or with another flag, or with a word 11 that is not 0, or with bytes of output where no text is asked for, and a stream that breaks off inside a request, end the answers
+// with `unread`.
 ghost use Prim.Native.Nat.{_*_, _≤_};
 ghost use lib.ListN.{length};
-ghost use Rattle.paintlines.specs.Request.{mostLent, HasRoom, Fitting, Planes, Buffers};
+ghost use Rattle.paintlines.specs.Request.{HasRoom, Fitting, Planes, Buffers};
 use libc::STDIN_FILENO;
 
+mod answers;
 mod buffer;
 mod say;
 
@@ -26,11 +31,14 @@ const MOST_WORDS: usize = 131072;
 // The most words lent of a buffer.
 const MOST_LENT: usize = 147456;
 
+// The most bytes lent of the output.
+const MOST_OUTPUT: usize = 1048576;
+
 // Words of a request before the image.
 const HEAD_WORDS: usize = 12;
 
-// All flags: coloured and short form.
-const ALL_FLAGS: u32 = 3;
+// All flags: coloured, short form and text.
+const ALL_FLAGS: u32 = 7;
 
 // What is asked of painting.
 struct Request {
@@ -40,6 +48,8 @@ struct Request {
     coloured: bool,
     // whether a checksum stands for each buffer
     short: bool,
+    // whether the band is written as text too
+    text: bool,
     // first row of the band
     first: usize,
     // rows of the band
@@ -52,6 +62,8 @@ struct Request {
     stamps: usize,
     // words lent of scratch
     scratch: usize,
+    // bytes lent of the output
+    output: usize,
 }
 
 // What stands next on the stream.
@@ -76,12 +88,14 @@ fn request_of(head: &[u32; HEAD_WORDS]) -> Request {
         words: ground::number(head[0]),
         coloured: flags % 2 == 1,
         short: flags / 2 % 2 == 1,
+        text: flags / 4 % 2 == 1,
         first: long(head[2], head[3]),
         rows: long(head[4], head[5]),
         cells: ground::number(head[6]),
         colours: ground::number(head[7]),
         stamps: ground::number(head[8]),
         scratch: ground::number(head[9]),
+        output: ground::number(head[10]),
     }
 }
 
@@ -105,23 +119,35 @@ fn within_limits(r: Request) -> Next
     if MOST_LENT < most_lent(r) {
         return Next::Unread;
     }
+    if MOST_OUTPUT < r.output {
+        return Next::Unread;
+    }
     Next::Asked(r)
 }
 
-// What the words before an image ask. Where another flag is set, or one of the last two words is not 0, it is not to be answered.
+// Only a request for text is lent an output.
+fn output_wanted(r: Request) -> Next
+    ensures { λ next. ⌜ Fitting next ⌝ }
+{
+    if !r.text {
+        if r.output != 0 {
+            return Next::Unread;
+        }
+    }
+    within_limits(r)
+}
+
+// What the words before an image ask. Where another flag is set, or the last word is not 0, it is not to be answered.
 fn asked(head: &[u32; HEAD_WORDS]) -> Next
     ensures { λ next. ⌜ Fitting next ⌝ }
 {
     if ALL_FLAGS < head[1] {
         return Next::Unread;
     }
-    if head[10] != 0 {
-        return Next::Unread;
-    }
     if head[11] != 0 {
         return Next::Unread;
     }
-    within_limits(request_of(head))
+    output_wanted(request_of(head))
 }
 
 fn next_request() -> Next
@@ -138,53 +164,6 @@ fn next_request() -> Next
     let mut head = [0u32; HEAD_WORDS];
     wordfile::fill(&bytes, &mut head);
     asked(&head)
-}
-
-// Answers a plain request, in buffers of the lengths that it asks for.
-fn answer_plain(r: Request, image: &[u32], cells: &mut [u32], scratch: &mut [u32])
-    requires { ⌜ (length (now cells) ≤ mostLent) × (length (now scratch) ≤ mostLent) ⌝ }
-{
-    buffer::fill_pattern(buffer::CELLS, cells);
-    buffer::fill_pattern(buffer::SCRATCH, scratch);
-    say::outcome(paint::paint(image, r.first, r.rows, cells, scratch));
-    say::buffer(b"cells", cells, r.short);
-    say::buffer(b"scratch", scratch, r.short);
-}
-
-// The four buffers as they stand before a request.
-fn fill_all(cells: &mut [u32], colours: &mut [u32], stamps: &mut [u32], scratch: &mut [u32])
-    requires { ⌜ (length (now cells) ≤ mostLent) × (length (now colours) ≤ mostLent) ⌝ }
-    requires { ⌜ (length (now stamps) ≤ mostLent) × (length (now scratch) ≤ mostLent) ⌝ }
-{
-    buffer::fill_pattern(buffer::CELLS, cells);
-    buffer::fill_pattern(buffer::COLOURS, colours);
-    buffer::fill_pattern(buffer::STAMPS, stamps);
-    buffer::fill_pattern(buffer::SCRATCH, scratch);
-}
-
-// A line for each of the four buffers.
-fn say_all(cells: &[u32], colours: &[u32], stamps: &[u32], scratch: &[u32], short: bool) {
-    say::buffer(b"cells", cells, short);
-    say::buffer(b"colours", colours, short);
-    say::buffer(b"stamps", stamps, short);
-    say::buffer(b"scratch", scratch, short);
-}
-
-// Answers a coloured request, in buffers of the lengths that it asks for.
-fn answer_coloured(
-    r: Request,
-    image: &[u32],
-    cells: &mut [u32],
-    colours: &mut [u32],
-    stamps: &mut [u32],
-    scratch: &mut [u32],
-)
-    requires { ⌜ (length (now cells) ≤ mostLent) × (length (now colours) ≤ mostLent) ⌝ }
-    requires { ⌜ (length (now stamps) ≤ mostLent) × (length (now scratch) ≤ mostLent) ⌝ }
-{
-    fill_all(cells, colours, stamps, scratch);
-    say::outcome(paint::paint_coloured(image, r.first, r.rows, cells, colours, stamps, scratch));
-    say_all(cells, colours, stamps, scratch, r.short);
 }
 
 // Reads so many words of an image; and whether they are there.
@@ -208,30 +187,24 @@ fn answer_read(
     colours: &mut [u32],
     stamps: &mut [u32],
     scratch: &mut [u32],
+    out: &mut [u8],
 )
-    requires { ⌜ HasRoom r × Planes (now cells) (now colours) (now stamps) (now scratch) ⌝ }
+    requires { ⌜ HasRoom r × Planes (now cells) (now colours) (now stamps) (now scratch) (now out) ⌝ }
 {
     let cell_count = r.cells;
+    let colour_count = r.colours;
+    let stamp_count = r.stamps;
     let scratch_count = r.scratch;
-    if r.coloured {
-        let colour_count = r.colours;
-        let stamp_count = r.stamps;
-        answer_coloured(
-            r,
-            image,
-            &mut cells[..cell_count],
-            &mut colours[..colour_count],
-            &mut stamps[..stamp_count],
-            &mut scratch[..scratch_count],
-        );
-    } else {
-        answer_plain(
-            r,
-            image,
-            &mut cells[..cell_count],
-            &mut scratch[..scratch_count],
-        );
-    }
+    let byte_count = r.output;
+    answers::answer_in(
+        r,
+        image,
+        &mut cells[..cell_count],
+        &mut colours[..colour_count],
+        &mut stamps[..stamp_count],
+        &mut scratch[..scratch_count],
+        &mut out[..byte_count],
+    );
 }
 
 // Reads the image of a request and answers it; and whether the image could be read.
@@ -243,15 +216,16 @@ fn answer(
     colours: &mut [u32],
     stamps: &mut [u32],
     scratch: &mut [u32],
+    out: &mut [u8],
 ) -> bool
-    requires { ⌜ HasRoom r × Buffers (now bytes) (now image) (now cells) (now colours) (now stamps) (now scratch) ⌝ }
+    requires { ⌜ HasRoom r × Buffers (now bytes) (now image) (now cells) (now colours) (now stamps) (now scratch) (now out) ⌝ }
 {
     let words = r.words;
     if !read_image(words, bytes, image) {
         say::unread();
         return false;
     }
-    answer_read(r, &image[..words], cells, colours, stamps, scratch);
+    answer_read(r, &image[..words], cells, colours, stamps, scratch, out);
     true
 }
 
@@ -263,12 +237,13 @@ fn step(
     colours: &mut [u32],
     stamps: &mut [u32],
     scratch: &mut [u32],
+    out: &mut [u8],
 ) -> bool
-    requires { ⌜ Buffers (now bytes) (now image) (now cells) (now colours) (now stamps) (now scratch) ⌝ }
+    requires { ⌜ Buffers (now bytes) (now image) (now cells) (now colours) (now stamps) (now scratch) (now out) ⌝ }
 {
     let next = next_request();
     match next {
-        Next::Asked(r) => answer(r, bytes, image, cells, colours, stamps, scratch),
+        Next::Asked(r) => answer(r, bytes, image, cells, colours, stamps, scratch, out),
         Next::End => false,
         Next::Unread => {
             say::unread();
@@ -285,8 +260,9 @@ fn answer_all(
     colours: &mut [u32],
     stamps: &mut [u32],
     scratch: &mut [u32],
+    out: &mut [u8],
 )
-    requires { ⌜ Buffers (now bytes) (now image) (now cells) (now colours) (now stamps) (now scratch) ⌝ }
+    requires { ⌜ Buffers (now bytes) (now image) (now cells) (now colours) (now stamps) (now scratch) (now out) ⌝ }
 {
     let mut turns = u64::MAX;
     let mut more = true;
@@ -294,7 +270,7 @@ fn answer_all(
         if turns == 0 {
             return;
         }
-        more = step(bytes, image, cells, colours, stamps, scratch);
+        more = step(bytes, image, cells, colours, stamps, scratch, out);
         turns -= 1;
     }
 }
@@ -307,8 +283,9 @@ fn lend_all(
     colours: &mut [u32; MOST_LENT],
     stamps: &mut [u32; MOST_LENT],
     scratch: &mut [u32; MOST_LENT],
+    out: &mut [u8; MOST_OUTPUT],
 ) {
-    answer_all(bytes, image, cells, colours, stamps, scratch);
+    answer_all(bytes, image, cells, colours, stamps, scratch, out);
 }
 
 fn main() {
@@ -318,6 +295,7 @@ fn main() {
     let mut colours = [0u32; MOST_LENT];
     let mut stamps = [0u32; MOST_LENT];
     let mut scratch = [0u32; MOST_LENT];
+    let mut out = [0u8; MOST_OUTPUT];
     lend_all(
         &mut bytes,
         &mut image,
@@ -325,5 +303,6 @@ fn main() {
         &mut colours,
         &mut stamps,
         &mut scratch,
+        &mut out,
     );
 }

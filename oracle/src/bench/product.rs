@@ -2,9 +2,10 @@
 //! this, and the public calls.
 
 use super::{Band, Manner, Work};
+use crate::as_text::{output_room, text_of};
 use crate::layout::room;
 use crate::paint::paint;
-use crate::pivotdawn::{self, Outcome, Planes};
+use crate::pivotdawn::{self, Outcome, Planes, Written};
 use crate::sheets::Sheet;
 use std::hint::black_box;
 
@@ -54,6 +55,8 @@ pub enum Call {
     Painting,
     /// The public call.
     Public,
+    /// The public call that writes the band as text too.
+    Text,
 }
 
 /// The buffers that are lent, for the largest band.
@@ -63,6 +66,9 @@ struct Lent {
     colours: Vec<u32>,
     stamps: Vec<u32>,
     scratch: Vec<u32>,
+    output: Vec<u8>,
+    /// How much of the output is the text of the last band.
+    written: usize,
 }
 
 impl Lent {
@@ -74,6 +80,8 @@ impl Lent {
             colours,
             stamps,
             scratch,
+            output: vec![0; output_room(words[0] as usize, rows, coloured)],
+            written: 0,
         }
     }
 
@@ -84,10 +92,16 @@ impl Lent {
                 let outcome = self.paint_publicly(image, band);
                 assert_eq!(outcome.code, 0, "a sheet of bench is refused");
             }
+            Call::Text => {
+                let written = self.write_text(image, band);
+                assert_eq!(written.code, 0, "a sheet of bench is refused");
+                self.written = written.bytes as usize;
+            }
         }
     }
 
-    fn paint_publicly(&mut self, image: &[u32], (first, rows): (usize, usize)) -> Outcome {
+    /// The buffers with just the room for a band, and the output.
+    fn planes(&mut self, image: &[u32], rows: usize) -> (Planes<'_>, &mut [u8]) {
         let wanted = room(image, rows)[0];
         let planes = Planes {
             cells: &mut self.cells[..wanted],
@@ -95,9 +109,24 @@ impl Lent {
             stamps: &mut self.stamps[..wanted],
             scratch: &mut self.scratch,
         };
-        match self.coloured {
+        (planes, &mut self.output)
+    }
+
+    fn paint_publicly(&mut self, image: &[u32], (first, rows): (usize, usize)) -> Outcome {
+        let coloured = self.coloured;
+        let (planes, _) = self.planes(image, rows);
+        match coloured {
             false => pivotdawn::paint(image, first, rows, planes.cells, planes.scratch),
             true => pivotdawn::paint_coloured(image, first, rows, planes),
+        }
+    }
+
+    fn write_text(&mut self, image: &[u32], (first, rows): (usize, usize)) -> Written {
+        let coloured = self.coloured;
+        let (planes, out) = self.planes(image, rows);
+        match coloured {
+            false => pivotdawn::paint_text(image, first, rows, planes.cells, planes.scratch, out),
+            true => pivotdawn::paint_text_coloured(image, first, rows, planes, out),
         }
     }
 
@@ -152,26 +181,32 @@ pub fn work(words: &[u32], manner: Manner, call: Call, bands: Vec<Band>) -> Work
     })
 }
 
-/// A picture that differs from the original's is not worth a time.
+/// A picture that differs from the original's, or a text of another, is not worth a time.
 pub fn assert_painted_alike(sheet: &Sheet, manner: Manner) {
     let Manner { coloured, band } = manner;
     let words = &sheet.words;
     let original =
         paint(words, coloured, usize::MAX).unwrap_or_else(|why| panic!("a sheet of bench: {why}"));
-    for call in [Call::Painting, Call::Public] {
+    let colours = coloured.then_some(&original.colours[..]);
+    let its_text = text_of(original.width, original.height, &original.cells, colours);
+    let [name, how] = [sheet.name, &manner.name()];
+    for call in [Call::Painting, Call::Public, Call::Text] {
         let mut lent = Lent::for_rows(words, coloured, band.min(original.height));
         let [mut cells, mut colours] = [(); 2].map(|()| Vec::<u32>::new());
+        let mut text = Vec::<u8>::new();
         for (first, rows) in manner.bands(words) {
             lent.paint_band(call, words, (first, rows));
             let painted = original.width * rows;
             cells.extend(&lent.cells[..painted]);
             colours.extend(&lent.colours[..painted]);
+            text.extend(&lent.output[..lent.written]);
         }
         let same_colours = !coloured || colours == original.colours;
-        let [name, how] = [sheet.name, &manner.name()];
         assert!(
             cells == original.cells && same_colours,
             "{name}, {how}: another picture"
         );
+        let same_text = !matches!(call, Call::Text) || text == its_text;
+        assert!(same_text, "{name}, {how}: another text");
     }
 }

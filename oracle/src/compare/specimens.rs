@@ -1,6 +1,6 @@
 //! The images of `compare`: which image has a number, and what is asked about it.
 
-use super::{BLOCK, MOST_LENT};
+use super::{BLOCK, MOST};
 use crate::band_requests::Asking;
 use crate::codes::{Meant, Target};
 use crate::generate::{code_targets, damage, random_image};
@@ -14,14 +14,16 @@ pub enum Kind {
     ForACode,
     Structured,
     FullTables,
+    EveryStroke,
 }
 
-pub const KIND_NAMES: [&str; 5] = [
+pub const KIND_NAMES: [&str; 6] = [
     "random",
     "damaged",
     "for a code",
     "structured",
     "full tables",
+    "every stroke",
 ];
 
 pub struct Specimen {
@@ -119,17 +121,23 @@ fn damaged(nth: u64, number: u64, seed: u64) -> Specimen {
     }
 }
 
-/// All that is asked about an image besides the check: two cuttings, and of eight
-/// images one for the refusals 11 and 12. A refused image is asked for more than one
-/// band.
+/// All that is asked about an image besides the check: four cuttings, of every second image
+/// outputs around the room of a text, and of eight images one for the refusals 11 and 12 and
+/// their order. A refused image is asked for more than one band.
 pub fn asking_about(words: Vec<u32>, number: u64, seed: u64) -> Asking {
-    let mut asking = Asking::about(words, seed.wrapping_add(number), MOST_LENT);
-    asking.ask_two_cuttings(number);
+    let mut asking = Asking::about(words, seed.wrapping_add(number), MOST);
+    asking.ask_four_cuttings(number);
     if !asking.subject.is_painted() {
         asking.ask_for_no_row();
-    } else if number % 8 == 1 {
+        return asking;
+    }
+    if number % 2 == 0 {
+        asking.ask_outputs();
+    }
+    if number % 8 == 1 {
         asking.ask_beyond();
         asking.ask_short_of_room();
+        asking.ask_short_of_both();
     }
     asking
 }

@@ -66,7 +66,7 @@ fn of_one_sheet(cases: &mut Cases) {
 
 /// Every path, weight, look and border on a sheet of eighteen columns and fourteen rows,
 /// all edges along one flow.
-fn everything(on_x_flow: bool, policy_and_dummies: u32) -> Draft {
+pub fn everything(on_x_flow: bool, policy_and_dummies: u32) -> Draft {
     let mut draft = sheet(18, 14);
     draft.head[HEADER_FLAGS_WORD] = policy_and_dummies;
     for (border, position) in [

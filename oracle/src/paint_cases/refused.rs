@@ -48,6 +48,7 @@ fn of_the_check(cases: &mut Cases, what: &str, codes: &[u32]) {
             let request = Request {
                 subject: Rc::clone(&subject),
                 coloured,
+                output: None,
                 first: rows / 2,
                 rows,
                 lent,
@@ -82,6 +83,7 @@ fn beyond_the_sheet(cases: &mut Cases) {
             let request = Request {
                 subject: Rc::clone(&subject),
                 coloured: first % 2 == 1,
+                output: None,
                 first,
                 rows,
                 lent,

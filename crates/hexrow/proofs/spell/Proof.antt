@@ -4,8 +4,8 @@ use Prim.Native.Nat.{_*_, _-_, _≤_}
 use mathlib.Core.List.{_++_}
 use mathlib.Core.Path.{_≡_}
 use lib.ListN.{length, take, drop}
-use Rattle.hexrow.specs.Hex.{spelled}
-use Rattle.hexrow.proofs.Laws.{one-more, all-spelled}
+use Rattle.hexrow.specs.Hex.{spelled, spelledBy, hexDigits}
+use Rattle.hexrow.proofs.Laws.{nine-long, one-more, all-spelled}
 use Rattle.hexrow.proofs.spell.Statement.{statement}
 use Rattle.hexrow.proofs.spell.Tie as tie
 
@@ -18,7 +18,7 @@ abbrev μ-loop : tie.MeasureT-loop
 μ-loop words text₀ count k₀ text k = count - k
 
 loop-holds : tie.Need-loop-holds Inv-loop μ-loop
-unfolding spelled
+unfolding spelledBy
 loop-holds c = search needs
 
 loop-again : tie.Need-loop-again Inv-loop μ-loop
@@ -30,13 +30,13 @@ loop-again c =
       search needs,
       search needs,
       search needs,
-      one-more (start .args .words .now) _ _ _ (turn .loop .k) (turn .loop .inv .4) (call .spell-word .ensures) (search needs),
+      one-more hexDigits 9 nine-long (start .args .words .now) _ _ _ (turn .loop .k) (turn .loop .inv .4) (call .spell-word .ensures) (search needs),
     )
 
 returns : tie.Need-returns Inv-loop μ-loop
 returns c =
     let l = c .before .loop in
-    (search needs, all-spelled _ _ _ (l .k) _ _ (l .inv .4) (c .before .before .min .ensures) (search needs) (search needs))
+    (search needs, all-spelled hexDigits 9 _ _ _ (l .k) _ _ (l .inv .4) (c .before .before .min .ensures) (search needs) (search needs))
 
 pub spell-spec : {M : Type 1} → statement M
 spell-spec =

@@ -5,11 +5,11 @@ use Rattle.paintlines.proofs.answer_all.Statement.{statement}
 use Rattle.paintlines.proofs.answer_all.Tie as tie
 
 abbrev Inv-loop : tie.InvT-loop
-Inv-loop bytes₀ image₀ cells₀ colours₀ stamps₀ scratch₀ turns₀ more₀ bytes image cells colours stamps scratch turns more =
-    Buffers bytes image cells colours stamps scratch
+Inv-loop bytes₀ image₀ cells₀ colours₀ stamps₀ scratch₀ out₀ turns₀ more₀ bytes image cells colours stamps scratch out turns more =
+    Buffers bytes image cells colours stamps scratch out
 
 abbrev μ-loop : tie.MeasureT-loop
-μ-loop bytes₀ image₀ cells₀ colours₀ stamps₀ scratch₀ turns₀ more₀ bytes image cells colours stamps scratch turns more =
+μ-loop bytes₀ image₀ cells₀ colours₀ stamps₀ scratch₀ out₀ turns₀ more₀ bytes image cells colours stamps scratch out turns more =
     turns
 
 pub answer-all-spec : {M : Type 1} → statement M
@@ -26,7 +26,9 @@ answer-all-spec =
     (λ c. search needs)
     (λ c. search needs)
     (λ c. search needs)
+    (λ c. search needs)
     (λ c κs. search needs)
+    (λ c. search needs)
     (λ c. search needs)
     (λ c. search needs)
     (λ c. search needs)

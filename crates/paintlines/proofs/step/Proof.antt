@@ -1,12 +1,11 @@
 -- `step` hands on only a request that has room.
 use borrow.Author.Needs.{needs}
+use Rattle.paintlines.proofs.Laws.{asked-fits}
 use Rattle.paintlines.proofs.step.Statement.{statement}
 use Rattle.paintlines.proofs.step.Tie as tie
 
 answer-requires : tie.Need-answer-requires
-answer-requires c κs =
-    let matched = c .before .before .before .before .before .before .before in
-    (rw (matched .next .given .1) at (matched .before .before .next-request .ensures), search needs)
+answer-requires c κs = (search (asked-fits, needs), search needs)
 
 pub step-spec : {M : Type 1} → statement M
 step-spec =
@@ -18,6 +17,7 @@ step-spec =
     (λ c. search needs)
     (λ c. search needs)
     (λ c κs. search needs)
+    (λ c. search needs)
     (λ c. search needs)
     (λ c. search needs)
     (λ c. search needs)

@@ -1,7 +1,7 @@
 -- `fill_pattern` fills a buffer with its pattern. The invariant: the words passed are filled, and all beyond them is as at first.
 use borrow.Author.Needs.{needs}
-use Prim.Native.Nat.{_-_, _≤_}
-use mathlib.Core.List.{_++_}
+use Prim.Native.Nat.{_+_, _-_, _≤_}
+use mathlib.Core.List.{_++_, map}
 use mathlib.Core.Path.{_≡_}
 use lib.ListN.{length, drop}
 use Rattle.ground.specs.Each.{numbers}
@@ -11,7 +11,7 @@ use Rattle.paintlines.proofs.buffer.fill_pattern.Tie as tie
 
 abbrev Inv-loop : tie.InvT-loop
 Inv-loop buffer lent₀ start k₀ lent k =
-    (k ≤ length lent₀) × (length lent ≡ length lent₀) × (lent ≡ numbers start k ++ drop k lent₀)
+    (k ≤ length lent₀) × (length lent ≡ length lent₀) × (lent ≡ map (λ i. start + i) (numbers 0 k) ++ drop k lent₀)
 
 abbrev μ-loop : tie.MeasureT-loop
 μ-loop buffer lent₀ start k₀ lent k = length lent₀ - k
