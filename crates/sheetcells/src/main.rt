@@ -7,7 +7,7 @@ ghost use lib.ListN.{length};
 ghost use Rattle.layout.specs.Layout.{maxWidth};
 ghost use Rattle.refusals.specs.Accepted.{Keeps};
 ghost use Rattle.sheetcells.specs.Bands.{bandRows, bandCells};
-use input::Input;
+use image_input::Image;
 use layout::HEADER_HEIGHT;
 use layout::HEADER_WIDTH;
 use layout::MAX_WIDTH;
@@ -101,22 +101,12 @@ fn print_image(image: &[u32]) {
     print_accepted(image, answer.runs, &mut cells, &mut scratch);
 }
 
-// The lent bytes have room for one more than the largest image has: where they are filled the input is longer, and is never taken for a whole one.
 fn print_input(bytes: &mut [u8], words: &mut [u32]) {
-    let came = input::read_all(bytes);
-    let Input::Bytes(got) = came else {
+    let came = image_input::read_image(bytes, words);
+    let Image::Words(count) = came else {
         say::unread();
         return;
     };
-    if bytes.len() <= got {
-        say::unread();
-        return;
-    }
-    if got % 4 != 0 {
-        say::unread();
-        return;
-    }
-    let count = wordfile::fill(&bytes[..got], words);
     print_image(&words[..count]);
 }
 

@@ -3,7 +3,8 @@ ghost use Prim.Native.Nat.{_<_, _≤_};
 use finding::element;
 use ground::Found;
 use image::ElementKind;
-use input::Input;
+use image_input::Image;
+use image_input::MOST_WORDS;
 use layout::FieldName;
 use layout::HEADER_HEIGHT;
 use layout::HEADER_RUNS;
@@ -205,36 +206,16 @@ fn broken_word(got: usize) {
     );
 }
 
-// Reads an image and reports on it. The lent bytes have room for one more than the largest image has: where they are filled the input is longer, and is never taken for a whole one.
+// Reads an image and reports on it.
 fn report_input(bytes: &mut [u8], words: &mut [u32]) {
-    let came = input::read_all(bytes);
-    let Input::Bytes(got) = came else {
-        unreadable();
-        return;
-    };
-    if bytes.len() <= got {
-        too_long();
-        return;
+    let came = image_input::read_image(bytes, words);
+    match came {
+        Image::Words(count) => report(&words[..count]),
+        Image::Failed => unreadable(),
+        Image::TooLong => too_long(),
+        Image::Broken(got) => broken_word(got),
     }
-    if got % 4 != 0 {
-        broken_word(got);
-        return;
-    }
-    let count = wordfile::fill(&bytes[..got], words);
-    report(&words[..count]);
 }
-
-// The words of nodes, edges, subgraphs and placed labels, each as many as there may be.
-const THING_WORDS: usize = layout::MAX_THINGS as usize
-    * (layout::NODE_SIZE + layout::EDGE_SIZE + layout::SUBGRAPH_SIZE + layout::LABEL_SIZE);
-
-// The words of the header and of every table at its limit: 81,932.
-const MOST_WORDS: usize = layout::HEADER_SIZE
-    + THING_WORDS
-    + layout::MAX_ELEMENTS as usize * layout::ELEMENT_SIZE
-    + layout::MAX_POINTS as usize * layout::POINT_SIZE
-    + layout::MAX_GLYPHS as usize * layout::GLYPH_SIZE
-    + layout::MAX_RANGES as usize * layout::RANGE_SIZE;
 
 fn main() {
     let mut bytes = [0u8; 4 * MOST_WORDS + 1];

@@ -1,0 +1,2 @@
+-- What is promised of reading an image.
+pub mod Came
