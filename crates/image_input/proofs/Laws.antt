@@ -3,7 +3,7 @@ use native.Mathlib.Omega.{arith}
 use Prim.Native.Nat.{ℕ, zero, suc, _+_, _*_, _/_, _≤_, _<_, min}
 use mathlib.Core.Path.{_≡_, refl, sym, ap, _∙_}
 use mathlib.Core.List.{List}
-use lib.ListN.{length, take, getD, set}
+use lib.ListN.{length, take, set}
 use lib.Seq.{getD-take, length-take-le}
 use Rattle.wordfile.specs.Words.{wordAt, filled}
 use Rattle.image_input.specs.declared.Image.{Image}

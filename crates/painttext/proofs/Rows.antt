@@ -2,8 +2,8 @@
 use native.Mathlib.Omega.{arith}
 use native.Mathlib.Nat.{zero-add, suc-mul}
 use Prim.Native.Nat.{ℕ, zero, suc, _+_, _*_, _≤_, _<_}
-use mathlib.Core.List.{List, [], _++_}
-use mathlib.Core.Path.{_≡_, refl, ap, _∙_}
+use mathlib.Core.List.{List, []}
+use mathlib.Core.Path.{_≡_, refl}
 use lib.ListN.{length, take, drop, length-append}
 use Rattle.ground.specs.Each.{numbers, each}
 use Rattle.refusals.specs.declared.Verdict.{Verdict}
@@ -13,7 +13,7 @@ use Rattle.picture.specs.Painted.{afterwards}
 use Rattle.picture.proofs.Laws.{row-width}
 use Rattle.picture.proofs.Answers.{row-of-band, colours-of-band}
 use Rattle.rowtext.specs.Text.{rowText, textRoom}
-use Rattle.rowtext.specs.Coloured.{colouredRow, rowAt, bandText, colouredRoom}
+use Rattle.rowtext.specs.Coloured.{colouredRow, bandText, colouredRoom}
 use Rattle.rowtext.proofs.Theorems.{row-room, coloured-row-room, uncoloured}
 use Rattle.painttext.specs.PaintedText.{pictureText, pictureColouredText}
 

@@ -5,7 +5,7 @@ use native.Mathlib.Nat.{mul-le-mul-left, mul-suc}
 use Prim.Native.Nat.{ℕ, zero, suc, _+_, _*_, _-_, _≤_, _<_, min}
 use mathlib.Core.Path.{_≡_, refl, sym, ap, _∙_}
 use mathlib.Core.List.{List, [], _∷_, _++_}
-use lib.ListN.{length, getD, set, take, drop, length-append, length-take, length-drop, drop-of-length-le}
+use lib.ListN.{length, getD, take, drop, length-drop, drop-of-length-le}
 use lib.Seq.{drop-cons, drop-drop, getD-drop, take-all}
 use borrow.Author.Tests.{ne-eqb, eq-eqb}
 use Rattle.ground.specs.Each.{numbers, each}

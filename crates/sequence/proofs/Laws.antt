@@ -4,7 +4,7 @@ use native.Mathlib.Numerals.{add-one}
 use Prim.Native.Nat.{ℕ, suc, _+_, _/_, _%_, _≤_, _<_}
 use mathlib.Core.Path.{_≡_, refl, sym, ap}
 use mathlib.Core.List.{List, [], _∷_, _++_}
-use lib.ListN.{length, getD, set, take, length-append}
+use lib.ListN.{length, getD, set, take}
 use lib.Seq.{take-suc, take-all, length-take-le}
 use borrow.Author.Tests.{lt-ltb, le-ltb, ne-eqb}
 use Rattle.utf8.specs.Utf8.{writtenAt}

@@ -1,8 +1,8 @@
 -- "colour 0, and no other, is the reset", and how long a sequence is.
 use native.Mathlib.Omega.{arith}
-use Prim.Native.Nat.{ℕ, _+_, _/_, _%_, _≤_, _<_}
-use mathlib.Core.Path.{_≡_, refl, sym, ap, _∙_}
-use mathlib.Core.List.{List, [], _∷_, _++_}
+use Prim.Native.Nat.{ℕ, _/_, _%_, _≤_, _<_}
+use mathlib.Core.Path.{_≡_, refl, ap}
+use mathlib.Core.List.{List}
 use lib.ListN.{length, getD, length-append}
 use Rattle.ground.proofs.Order.{by-order}
 use Rattle.sequence.specs.Sequence.{decimal, numeral, semicolon, ending, redGreenBlue, sequence, longest, reset}

@@ -1,6 +1,5 @@
 // The ECMA-48 sequence of a colour.
 ghost use mathlib.Core.Path.{_≡_};
-ghost use mathlib.Core.List.{_∷_, []};
 ghost use Prim.Native.Nat.{_+_, _≤_, _<_};
 ghost use lib.ListN.{length};
 ghost use Rattle.utf8.specs.Utf8.{writtenAt};

@@ -2,13 +2,13 @@
 use native.Mathlib.Omega.{arith}
 use native.Mathlib.Numerals.{add-one}
 use Prim.Native.Nat.{ℕ, suc, _+_, _/_, _%_, _≤_, _<_}
-use mathlib.Core.Path.{_≡_, refl, ap}
+use mathlib.Core.Path.{_≡_, refl}
 use mathlib.Core.List.{List, [], _∷_}
 use lib.ListN.{length, set}
 use borrow.Author.Tests.{lt-ltb, le-ltb}
 use Rattle.ground.proofs.Order.{by-order}
-use Rattle.utf8.specs.Utf8.{utf8, writtenAt}
-use Rattle.utf8.proofs.Written.{Put, put-as, put-stored}
+use Rattle.utf8.specs.Utf8.{utf8}
+use Rattle.utf8.proofs.Written.{Put, put-stored}
 
 -- the bytes of a character, by its size
 

@@ -3,7 +3,7 @@ use native.Mathlib.Omega.{arith}
 use Prim.Native.Nat.{ℕ, _+_, _≤_}
 use mathlib.Core.Path.{_≡_, refl, sym, ap, _∙_}
 use mathlib.Core.List.{List, [], _∷_, _++_, append-assoc}
-use lib.ListN.{length, set, take, drop, length-append, length-take, length-drop, take-append-drop}
+use lib.ListN.{length, set, take, drop, length-append, take-append-drop}
 use lib.Seq.{sets, sets-eq, take-at, drop-drop, drop-append-add, length-take-le}
 use Rattle.utf8.specs.Utf8.{writtenAt}
 
@@ -11,10 +11,6 @@ module _ (out : List ℕ) (at : ℕ) where
   nothing-written : writtenAt at [] out ≡ out
   unfolding writtenAt
   nothing-written = let e : at + 0 ≡ at = omega arith in rw e (take-append-drop at out)
-
-  pub written-length : (text : List ℕ) → at + length text ≤ length out → length (writtenAt at text out) ≡ length out
-  unfolding writtenAt
-  written-length text h = simp (length-append, length-take, length-drop) (omega arith)
 
   pub written-on :
       (one more : List ℕ) → at ≤ length out → writtenAt (at + length one) more (writtenAt at one out) ≡ writtenAt at (one ++ more) out

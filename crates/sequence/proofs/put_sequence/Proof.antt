@@ -1,8 +1,7 @@
 -- `put_sequence` meets its contract.
 use borrow.Author.Needs.{needs}
-use mathlib.Core.List.{[]}
 use Rattle.utf8.proofs.Written.{put-as}
-use Rattle.sequence.specs.Sequence.{numeral, ending, reset, basic, indexed, direct, redGreenBlue, sequence}
+use Rattle.sequence.specs.Sequence.{numeral, ending, basic, indexed, direct, redGreenBlue, sequence}
 use Rattle.sequence.proofs.Laws.{front-fits, number-fits, after-front, reset-fits, is-reset, is-basic, is-indexed, is-direct}
 use Rattle.sequence.proofs.put_sequence.Statement.{statement}
 use Rattle.sequence.proofs.put_sequence.Tie as tie
