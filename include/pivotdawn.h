@@ -46,7 +46,8 @@
  * Leave a call 32 KiB of stack. Nothing calls itself, and the arrays on the stack are of
  * fixed size, whatever the image. Measured, by filling the stack of a thread, calling, and
  * looking how far down it was written, over 656 bands of various images: check 13,111 bytes,
- * painting 17,999, coloured painting 18,263; the most of x86-64 and Arm.
+ * painting 17,999, coloured painting 18,263; the most of x86-64 and Arm. On x86-64 alone, over
+ * 774 bands and with the frame of the caller: text 18,295, coloured text 18,311.
  */
 #ifndef PIVOTDAWN_H
 #define PIVOTDAWN_H
