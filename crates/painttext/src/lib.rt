@@ -13,6 +13,7 @@ use refusals::Verdict;
 // "output under rows × (4 × width + 1) bytes"
 pub const TOO_LITTLE_OUTPUT: u32 = 20;
 
+// What the calls for text answer.
 pub struct Written {
     // 0 where the band was written, else the code of the first rule that is broken
     pub code: u32,
@@ -38,7 +39,7 @@ fn coloured_room(width: usize, rows: usize) -> usize
     rows * (23 * width + 5)
 }
 
-// Code 20.
+// Code 20: an output that is shorter than is wanted.
 fn output_verdict(wanted: usize, out: &[u8]) -> Verdict
     ensures { λ r. ⌜ r ≡ firstBroken (outputRules wanted (now (out .entry))) ⌝ }
 {
@@ -51,7 +52,7 @@ fn output_verdict(wanted: usize, out: &[u8]) -> Verdict
     Verdict::Passed
 }
 
-// Codes 1 to 12, then 20, of a plain text.
+// Painting's codes, then 20, of a plain text.
 fn text_verdict(
     image: &[u32],
     first: usize,
@@ -70,7 +71,7 @@ fn text_verdict(
     output_verdict(text_room(width, rows), out)
 }
 
-// Codes 1 to 12, then 20, of a coloured text.
+// Painting's codes, then 20, of a coloured text.
 fn text_coloured_verdict(
     image: &[u32],
     first: usize,
@@ -91,6 +92,7 @@ fn text_coloured_verdict(
     output_verdict(coloured_room(width, rows), out)
 }
 
+// "The bytes written are answered"; where it is refused, none is.
 fn written_of(verdict: Verdict, bytes: usize) -> Written
     ensures { λ r. ⌜ r ≡ writtenOf verdict bytes ⌝ }
 {
