@@ -2,35 +2,15 @@
 
 use crate::as_text::STROKES;
 use crate::draft::{edge_record, Draft};
+use crate::generate::EDGE_COLOURS;
 use crate::layout::{EDGES, ORTHOGONAL};
-
-/// At the edges of the kinds of sequences by which a text shows colours, and of how many
-/// digits these have.
-pub const COLOURS: [u32; 16] = [
-    1,
-    7,
-    8,
-    9,
-    10,
-    99,
-    100,
-    255,
-    256,
-    0x0009_0A63,
-    0x0064_FF00,
-    0x00FF_FFFF,
-    0x0100_0000,
-    0xFF00_0001,
-    u32::MAX,
-    0,
-];
 
 /// All that four arms can be, sixteen to a row, one colour after the other.
 pub fn every_stroke() -> Draft {
     let mut draft = Draft::blank_sheet(18, 18);
     for number in 1..STROKES {
         let place = [1 + number % 16, 1 + number / 16].map(|at| at as u32);
-        let colour = COLOURS[number % COLOURS.len()];
+        let colour = EDGE_COLOURS[number % EDGE_COLOURS.len()];
         add_stroke(&mut draft, place, number, colour);
     }
     draft

@@ -122,30 +122,32 @@ fn random_extent(dice: &mut Dice) -> u32 {
     }
 }
 
-/// Any colour, often one at the edges of the kinds of sequences by which a text shows
-/// colours, and of how many digits these have.
+/// At the edges of the kinds of sequences by which a text shows colours, and of how many
+/// digits these have.
+pub const EDGE_COLOURS: [u32; 16] = [
+    1,
+    7,
+    8,
+    9,
+    10,
+    99,
+    100,
+    255,
+    256,
+    0x0009_0A63,
+    0x0064_FF00,
+    0x00FF_FFFF,
+    0x0100_0000,
+    0xFF00_0001,
+    u32::MAX,
+    0,
+];
+
+/// Any colour, often one of these.
 fn random_colour(dice: &mut Dice) -> u32 {
-    const NOTABLE: [u32; 16] = [
-        1,
-        7,
-        8,
-        9,
-        10,
-        99,
-        100,
-        255,
-        256,
-        0x0009_0A63,
-        0x0064_FF00,
-        0x00FF_FFFF,
-        0x0100_0000,
-        0x0100_0001,
-        0xFF00_0000,
-        u32::MAX,
-    ];
     match dice.below(4) {
         0 => 0,
-        1 => dice.pick(&NOTABLE),
+        1 => dice.pick(&EDGE_COLOURS),
         2 => dice.below(256),
         _ => dice.any_word(),
     }

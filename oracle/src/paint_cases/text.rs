@@ -6,7 +6,8 @@ use super::bands::{everything, medley};
 use super::things::{add_node, add_subgraph, sheet};
 use super::{band, subject_of, whole, Cases};
 use crate::draft::{edge_record, Draft};
-use crate::every_stroke::{every_stroke, COLOURS};
+use crate::every_stroke::every_stroke;
+use crate::generate::EDGE_COLOURS;
 use crate::layout::{
     BOXED, DIRECT, DUMMY, EDGES, END_MARKER_BIT, HEADER_FLAGS_WORD, LABEL_PRESENT_BIT, NODES,
     PLACED_LABELS, SELF_LOOP_BIT, SHOW_DUMMIES_BIT, SIMPLE, START_MARKER_BIT, X_FLOW_BIT,
@@ -157,8 +158,8 @@ fn characters(cases: &mut Cases) {
 /// Quotes of placed labels, two columns of each colour; each colour twice in a row, then once
 /// more on the next.
 fn colours_side_by_side(cases: &mut Cases) {
-    let mut draft = Draft::blank_sheet(2 * COLOURS.len() as u32, 3);
-    for (nth, colour) in (0..).zip(COLOURS) {
+    let mut draft = Draft::blank_sheet(2 * EDGE_COLOURS.len() as u32, 3);
+    for (nth, colour) in (0..).zip(EDGE_COLOURS) {
         let x = 2 * nth;
         let flags = DIRECT << 29 | 2 << 23 | LABEL_PRESENT_BIT;
         let mut record = edge_record([x, 2, x, 2], flags, [0; 3]);
