@@ -19,7 +19,9 @@ use Rattle.refusals.specs.Accepted.{Keeps}
 use Rattle.refusals.proofs.FirstBroken.{andThen, broken-append}
 use Rattle.refusals.proofs.Kept.{things-few, few-elements, good-elements, elements-inside}
 use Rattle.refusals.proofs.Theorems.{accepted-passes, accepted-iff}
-use Rattle.selection.specs.Selection.{Walkable, Marked}
+use Rattle.elements.specs.Slots.{slotCount}
+use Rattle.selection.specs.Selection.{Walkable, Marked, fresh}
+use Rattle.selection.proofs.Laws.{fresh-marked}
 use Rattle.selection.proofs.Theorems.{marked-selected}
 use Rattle.window.specs.declared.Lent.{Lent}
 use Rattle.window.specs.declared.Lent.the-variants.{Cells, All}
@@ -74,6 +76,12 @@ module _ (image : List ℕ) (ts : Tables) (keeps : Keeps image) (t : ts ≡ tabl
       room = rw t (omega (arith, keeps .tables .runs));
       few = rw t (omega (arith, keeps .tables .runs, keeps .header .runs));
     }
+
+-- what a fresh selection leaves is marked
+pub marked-of :
+    (image : List ℕ) (ts : Tables) (top end : ℕ) (marks next : List ℕ) → Walkable image ts → length marks ≡ slotCount → next ≡ fresh image ts top end marks →
+    Marked image ts top end next (ts .elements .count)
+marked-of image ts top end marks next w size e = rw e (fresh-marked image ts top end w marks size)
 
 -- What is lent for a band has room for its window.
 module _ (image : List ℕ) (v : Window) (keeps : Keeps image) (inside : v .first + v .rows ≤ height image) (wide : v .width ≡ width image) where

@@ -1,22 +1,30 @@
 // Which things a band may show, by the element list: "each call selects afresh".
 ghost use mathlib.Core.Path.{_≡_};
-ghost use Prim.Native.Nat.{_+_, _≤_, _<_};
-ghost use lib.ListN.{length, set};
-ghost use Rattle.elements.specs.Slots.{slotCount};
+ghost use Prim.Native.Nat.{_+_, _<_};
+ghost use lib.ListN.{set};
 ghost use Rattle.layout.specs.Layout.{elementSize};
 ghost use Rattle.layout.specs.Inside.{Inside};
-ghost use Rattle.selection.specs.Selection.{Marked, markElement, Walkable, BelowFrom};
+ghost use Rattle.selection.specs.Selection.{markElement, Walkable, Begun, fresh};
 use layout::ELEMENT_FIRST_ROW;
 use layout::ELEMENT_LAST_ROW;
 use layout::Tables;
 use layout::field_inside;
-use rows::Window;
 
-fn mark(marks: &mut [u8], slot: usize)
+// Marks the thing of a slot.
+pub fn mark(marks: &mut [u8], slot: usize)
     ensures { λ _. ⌜ now (marks .exit) ≡ set (now (marks .entry)) slot 1 ⌝ }
 {
     if slot < marks.len() {
         marks[slot] = 1;
+    }
+}
+
+// Takes the mark of a slot back.
+pub fn unmark(marks: &mut [u8], slot: usize)
+    ensures { λ _. ⌜ now (marks .exit) ≡ set (now (marks .entry)) slot 0 ⌝ }
+{
+    if slot < marks.len() {
+        marks[slot] = 0;
     }
 }
 
@@ -30,11 +38,10 @@ fn mark_element(image: &[u32], ts: Tables, top: usize, k: usize, marks: &mut [u8
     }
 }
 
-// How many elements are to be looked at: none after them begins above the window's end. The elements stand in the order of their first rows, so that halving
-// finds it.
+// How many elements begin above the end. The elements stand in the order of their first rows, so that halving finds it.
 fn count_above(image: &[u32], ts: Tables, end: usize) -> usize
     requires { ⌜ Walkable (now image) ts ⌝ }
-    ensures { λ r. ⌜ (r ≤ ts .elements .count) × BelowFrom (now (image .entry)) ts end r ⌝ }
+    ensures { λ r. ⌜ Begun (now (image .entry)) ts end r ⌝ }
 {
     let mut low: usize = 0;
     let mut high = ts.elements.count;
@@ -49,13 +56,11 @@ fn count_above(image: &[u32], ts: Tables, end: usize) -> usize
     high
 }
 
-// Marks each thing that an element lists with rows of the window.
-pub fn mark_listed(image: &[u32], ts: Tables, v: Window, marks: &mut [u8])
-    requires { ⌜ Walkable (now image) ts × (v .first + v .rows ≤ 0xFFFFFFFF) × (length (now marks) ≡ slotCount) ⌝ }
-    ensures { λ _. ⌜ Marked (now (image .entry)) ts (v .first) (v .first + v .rows) (now (marks .exit)) (ts .elements .count) ⌝ }
+// A fresh selection: marks each thing that an element lists with rows from the top on and above the end.
+pub fn mark_listed(image: &[u32], ts: Tables, top: usize, end: usize, marks: &mut [u8])
+    requires { ⌜ Walkable (now image) ts ⌝ }
+    ensures { λ _. ⌜ now (marks .exit) ≡ fresh (now (image .entry)) ts top end (now (marks .entry)) ⌝ }
 {
-    let top = v.first;
-    let end = top + v.rows;
     let count = count_above(image, ts, end);
     let mut k: usize = 0;
     while k < count {

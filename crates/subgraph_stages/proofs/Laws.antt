@@ -1,8 +1,8 @@
--- The stages of subgraphs: a border and a label painted, or passed over.
+-- The stages of subgraphs: a border and a label painted, or passed over; and a turn of each stage's loop.
 use Prim.Native.Nat.{ℕ, _+_, _≤_, _<_}
 use mathlib.Core.Bool.{Bool, false, not}
 use mathlib.Core.List.{List}
-use mathlib.Core.Path.{_≡_, sym, ap, _∙_}
+use mathlib.Core.Path.{_≡_, refl, sym, ap, _∙_}
 use lib.Dec.{eqb}
 use lib.ListN.{getD}
 use borrow.Author.Tests.{eq-eqb, ne-eqb}
@@ -23,8 +23,8 @@ use Rattle.window.specs.Writes.{Canvas, tinted, keepTint, colourTint}
 use Rattle.window.specs.Window.{inkWindow}
 use Rattle.window.proofs.Theorems.{untouched}
 use Rattle.picture.specs.Writes.{borderTint, borderWrites, subgraphLabelWrites}
-use Rattle.stage.specs.Staged.{Staged}
-use Rattle.stage.proofs.Laws.{unmarked-touches}
+use Rattle.stage.specs.Staged.{Staged, stageLeft, Unmarked}
+use Rattle.stage.proofs.Laws.{unmarked-touches, stage-next}
 
 -- "colour (0 keeps what is there)"
 
@@ -88,3 +88,23 @@ module _ (image : List ℕ) (ts : Tables) (v : Window) (marks ranges : List ℕ)
     unfolding subgraphLabelWrites
     label-passed =
         sym (rw (staged .read) (untouched v (rangesOf image ts) keepTint (subgraphLabelSpots (rangesOf image ts) subgraph glyphs) c (λ y p q. both y p q .1)))
+
+-- a subgraph, and those after it that are not marked
+module _ (image : List ℕ) (ts : Tables) (v : Window) (marks ranges : List ℕ) (number k next : ℕ) (c after whole : Canvas)
+    (staged : Staged image ts v marks ranges) (h : k < ts .subgraphs .count) (p : k + 1 ≤ next) (q : next ≤ ts .subgraphs .count)
+    (n : number ≡ elementKindNumber kind.Subgraph) (none : Unmarked marks number (k + 1) next) where
+  pub borders-next :
+      stageLeft v ranges (borderWrites image ts) k (ts .subgraphs .count) c ≡ whole →
+      after ≡ inkWindow v ranges (borderWrites image ts k) c →
+      stageLeft v ranges (borderWrites image ts) next (ts .subgraphs .count) after ≡ whole
+  borders-next left d =
+      stage-next v ranges (borderWrites image ts) (ts .subgraphs .count) k next c after whole h p q left d
+      (λ i there a b. border-passed image ts v marks ranges i after staged number false there n (rw (none .none i a b)) refl)
+
+  pub labels-next :
+      stageLeft v ranges (subgraphLabelWrites image ts) k (ts .subgraphs .count) c ≡ whole →
+      after ≡ inkWindow v ranges (subgraphLabelWrites image ts k) c →
+      stageLeft v ranges (subgraphLabelWrites image ts) next (ts .subgraphs .count) after ≡ whole
+  labels-next left d =
+      stage-next v ranges (subgraphLabelWrites image ts) (ts .subgraphs .count) k next c after whole h p q left d
+      (λ i there a b. label-passed image ts v marks ranges i after staged number false there n (rw (none .none i a b)) refl)

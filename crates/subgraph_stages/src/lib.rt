@@ -99,11 +99,12 @@ pub fn paint_borders(
     requires { ⌜ Staged (now image) ts v (now marks) (now ranges) × Ready lent v (now cells) (now colours) (now stamps) ⌝ }
     ensures { λ _. ⌜ canvasOf lent (now (cells .exit)) (now (colours .exit)) (now (stamps .exit)) ≡ inkWindow v (now (ranges .entry)) (borders (now (image .entry)) ts) (canvasOf lent (now (cells .entry)) (now (colours .entry)) (now (stamps .entry))) ⌝ }
 {
+    let kind = image::element_kind_number(ElementKind::Subgraph);
     let count = ts.subgraphs.count;
     let mut k: usize = 0;
     while k < count {
         paint_border(image, ts, v, lent, ranges, marks, cells, colours, stamps, k);
-        k += 1;
+        k = stage::next_marked(marks, kind, k + 1, count);
     }
 }
 
@@ -122,10 +123,11 @@ pub fn paint_labels(
     requires { ⌜ Staged (now image) ts v (now marks) (now ranges) × Ready lent v (now cells) (now colours) (now stamps) ⌝ }
     ensures { λ _. ⌜ canvasOf lent (now (cells .exit)) (now (colours .exit)) (now (stamps .exit)) ≡ inkWindow v (now (ranges .entry)) (subgraphLabels (now (image .entry)) ts) (canvasOf lent (now (cells .entry)) (now (colours .entry)) (now (stamps .entry))) ⌝ }
 {
+    let kind = image::element_kind_number(ElementKind::Subgraph);
     let count = ts.subgraphs.count;
     let mut k: usize = 0;
     while k < count {
         paint_label(image, ts, v, lent, ranges, marks, cells, colours, stamps, k);
-        k += 1;
+        k = stage::next_marked(marks, kind, k + 1, count);
     }
 }

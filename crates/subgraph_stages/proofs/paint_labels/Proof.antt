@@ -7,12 +7,13 @@ use Rattle.window.specs.Window.{inkWindow, canvasOf, Ready}
 use Rattle.window.proofs.Theorems.{ready-after}
 use Rattle.picture.specs.Writes.{subgraphLabelWrites, subgraphLabels}
 use Rattle.stage.specs.Staged.{stageLeft}
-use Rattle.stage.proofs.Laws.{stage-begins, stage-again, stage-done}
+use Rattle.stage.proofs.Laws.{stage-begins, stage-done}
+use Rattle.subgraph_stages.proofs.Laws.{labels-next}
 use Rattle.subgraph_stages.proofs.paint_labels.Statement.{statement}
 use Rattle.subgraph_stages.proofs.paint_labels.Tie as tie
 
 abbrev Inv-loop : tie.InvT-loop
-Inv-loop image ts v lent ranges marks cells₀ colours₀ stamps₀ count k₀ cells colours stamps k =
+Inv-loop image ts v lent ranges marks cells₀ colours₀ stamps₀ kind count k₀ cells colours stamps k =
     (k ≤ count)
     × (length cells ≡ length cells₀)
     × (length colours ≡ length colours₀)
@@ -22,7 +23,7 @@ Inv-loop image ts v lent ranges marks cells₀ colours₀ stamps₀ count k₀ c
     ≡ inkWindow v ranges (subgraphLabels image ts) (canvasOf lent cells₀ colours₀ stamps₀))
 
 abbrev μ-loop : tie.MeasureT-loop
-μ-loop image ts v lent ranges marks cells₀ colours₀ stamps₀ count k₀ cells colours stamps k = count - k
+μ-loop image ts v lent ranges marks cells₀ colours₀ stamps₀ kind count k₀ cells colours stamps k = count - k
 
 loop-holds : tie.Need-loop-holds Inv-loop μ-loop
 loop-holds c = (search needs, refl, refl, refl, search needs, stage-begins _ _ _ _ _)
@@ -34,7 +35,7 @@ loop-again c = (
   search needs,
   search needs,
   search (ready-after, needs),
-  search (stage-again, needs),
+  search (labels-next, needs),
 )
 
 returns : tie.Need-returns Inv-loop μ-loop
@@ -46,9 +47,11 @@ paint-labels-spec =
     (tie.spec
     Inv-loop
     μ-loop
+    (λ c κs. search needs)
     loop-holds
     (λ c κs. search needs)
     (λ c. search needs)
+    (λ c κs. search needs)
     (λ c. search needs)
     loop-again
     (λ c. search needs)
