@@ -1,13 +1,14 @@
 // Codes 11 and 12: a band that leaves the sheet, and a lent buffer that is short.
 ghost use mathlib.Core.Path.{_≡_};
 ghost use mathlib.Core.Bool.{false, not};
+ghost use mathlib.Core.List.{[], _∷_};
 ghost use Prim.Native.Nat.{_+_, _<_};
 ghost use lib.Dec.{leb};
 ghost use lib.ListN.{length};
-ghost use Rattle.refusals.specs.FirstBroken.{firstBroken};
+ghost use Rattle.refusals.specs.FirstBroken.{rule, firstBroken};
 ghost use Rattle.picture.specs.Picture.{height};
 ghost use Rattle.refusals.specs.declared.Verdict.the-variants as verdict;
-ghost use Rattle.picture.specs.Painted.{tooLittleRoom, room, scratchRoom, plainJudged, colouredJudged, bandRules};
+ghost use Rattle.picture.specs.Painted.{tooLittleRoom, room, scratchRoom, plainRooms, colouredRooms, plainJudged, colouredJudged, bandRules};
 use layout::HEADER_ELEMENTS;
 use layout::HEADER_HEIGHT;
 use layout::HEADER_RUNS;
@@ -74,7 +75,46 @@ fn short(place: usize) -> Verdict
     }
 }
 
-// Of a plain band: what of cells and scratch is short.
+// What of cells and scratch is short, where so many words are wanted of each.
+pub fn short_plain(words: usize, needed: usize, cells: &[u32], scratch: &[u32]) -> Verdict
+    ensures { λ r. ⌜ r ≡ firstBroken (rule tooLittleRoom (plainRooms words needed (now (cells .entry)) (now (scratch .entry))) ∷ []) ⌝ }
+{
+    if is_short(cells, words) {
+        return short(CELLS);
+    }
+    if is_short(scratch, needed) {
+        return short(SCRATCH);
+    }
+    Verdict::Passed
+}
+
+// What of cells, colours, stamps and scratch is short, the first of them.
+pub fn short_coloured(
+    words: usize,
+    needed: usize,
+    cells: &[u32],
+    colours: &[u32],
+    stamps: &[u32],
+    scratch: &[u32],
+) -> Verdict
+    ensures { λ r. ⌜ r ≡ firstBroken (rule tooLittleRoom (colouredRooms words needed (now (cells .entry)) (now (colours .entry)) (now (stamps .entry)) (now (scratch .entry))) ∷ []) ⌝ }
+{
+    if is_short(cells, words) {
+        return short(CELLS);
+    }
+    if is_short(colours, words) {
+        return short(COLOURS);
+    }
+    if is_short(stamps, words) {
+        return short(STAMPS);
+    }
+    if is_short(scratch, needed) {
+        return short(SCRATCH);
+    }
+    Verdict::Passed
+}
+
+// Of a plain band: 11, then what of cells and scratch is short.
 pub fn check_plain(
     image: &[u32],
     first: usize,
@@ -90,16 +130,10 @@ pub fn check_plain(
             place: 0,
         };
     }
-    if is_short(cells, room(image, rows)) {
-        return short(CELLS);
-    }
-    if is_short(scratch, scratch_room(image)) {
-        return short(SCRATCH);
-    }
-    Verdict::Passed
+    short_plain(room(image, rows), scratch_room(image), cells, scratch)
 }
 
-// Of a coloured band: what of cells, colours, stamps and scratch is short, the first of them.
+// Of a coloured band: 11, then what of cells, colours, stamps and scratch is short.
 pub fn check_coloured(
     image: &[u32],
     first: usize,
@@ -117,18 +151,12 @@ pub fn check_coloured(
             place: 0,
         };
     }
-    let wanted = room(image, rows);
-    if is_short(cells, wanted) {
-        return short(CELLS);
-    }
-    if is_short(colours, wanted) {
-        return short(COLOURS);
-    }
-    if is_short(stamps, wanted) {
-        return short(STAMPS);
-    }
-    if is_short(scratch, scratch_room(image)) {
-        return short(SCRATCH);
-    }
-    Verdict::Passed
+    short_coloured(
+        room(image, rows),
+        scratch_room(image),
+        cells,
+        colours,
+        stamps,
+        scratch,
+    )
 }

@@ -17,7 +17,7 @@ pub struct Outcome {
 }
 
 // "Accepted: code 0, place 0."
-fn outcome_of(verdict: Verdict) -> Outcome
+pub fn outcome_of(verdict: Verdict) -> Outcome
     ensures { λ r. ⌜ r ≡ outcomeOf verdict ⌝ }
 {
     match verdict {
@@ -30,7 +30,7 @@ fn outcome_of(verdict: Verdict) -> Outcome
 }
 
 // The codes of the check.
-fn image_verdict(image: &[u32]) -> Verdict
+pub fn image_verdict(image: &[u32]) -> Verdict
     ensures { λ r. ⌜ r ≡ firstBroken (rules (now (image .entry))) ⌝ }
 {
     let answer = refusals::check(image);

@@ -1,10 +1,10 @@
 -- The text of a band that was painted is the text of the picture's rows, and how long it is at most.
 use native.Mathlib.Omega.{arith}
-use native.Mathlib.Nat.{zero-add, suc-mul}
+use native.Mathlib.Nat.{zero-add}
 use Prim.Native.Nat.{ℕ, zero, suc, _+_, _*_, _≤_, _<_}
 use mathlib.Core.List.{List, []}
 use mathlib.Core.Path.{_≡_, refl}
-use lib.ListN.{length, take, drop, length-append}
+use lib.ListN.{length, take, drop}
 use Rattle.ground.specs.Each.{numbers, each}
 use Rattle.refusals.specs.declared.Verdict.{Verdict}
 use Rattle.refusals.specs.declared.Verdict.the-variants.{Passed}
@@ -14,7 +14,7 @@ use Rattle.picture.proofs.Laws.{row-width}
 use Rattle.picture.proofs.Answers.{row-of-band, colours-of-band}
 use Rattle.rowtext.specs.Text.{rowText, textRoom}
 use Rattle.rowtext.specs.Coloured.{colouredRow, bandText, colouredRoom}
-use Rattle.rowtext.proofs.Theorems.{row-room, coloured-row-room, uncoloured}
+use Rattle.rowtext.proofs.Theorems.{row-room, coloured-row-room, rows-room, uncoloured}
 use Rattle.painttext.specs.PaintedText.{pictureText, pictureColouredText}
 
 -- over numbers from different firsts on, where the same is made one by one
@@ -29,13 +29,6 @@ each-alike f g a b (suc n) h =
     let sa : (r : ℕ) → suc a + r ≡ a + suc r = λ r. omega arith in
     let sb : (r : ℕ) → suc b + r ≡ b + suc r = λ r. omega arith in
     rw (this, each-alike f g (suc a) (suc b) n (λ r p. rw (sa r, sb r) (h (suc r) (omega arith))))
-
--- as many bytes as each row has at most
-rows-room : (f : ℕ → List ℕ) (most first n : ℕ) → ((y : ℕ) → length (f y) ≤ most) → length (each (numbers first n) f) ≤ n * most
-unfolding each numbers
-rows-room f most first zero h = omega arith
-rows-room f most first (suc n) h =
-    rw (suc-mul n most) (simp length-append (omega (arith, h first, rows-room f most (suc first) n h)))
 
 module _ (image : List ℕ) (first rows : ℕ) where
   -- "rows × (4 × width + 1) bytes" are room for the text of any rows

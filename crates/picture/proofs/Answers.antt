@@ -7,20 +7,22 @@ use mathlib.Core.List.{List, [], _∷_, _++_, append-assoc, append-nil}
 use mathlib.Core.Path.{_≡_, refl, sym, ap, _∙_}
 use lib.ListN.{length, take, drop}
 use lib.Seq.{take-at, drop-at}
-use lib.Dec.{eqb}
-use borrow.Author.Tests.{le-leb, lt-leb, eqb-true, eqb-false}
+use lib.Dec.{eqb, ltb}
+use borrow.Author.Tests.{le-leb, lt-leb, ltb-true, eqb-true, eqb-false}
+use Rattle.ground.specs.declared.Found.{Found}
+use Rattle.ground.specs.declared.Found.the-variants as found
 use Rattle.ground.specs.Each.{every, numbers, each}
-use Rattle.ground.specs.Judged.{Judged, firstBad}
-use Rattle.ground.proofs.Each.{by-bool}
+use Rattle.ground.specs.Judged.{Judged, firstBad, FirstBad}
+use Rattle.ground.proofs.Each.{by-bool, and-left, and-right}
 use Rattle.ground.proofs.Judged.{all-good, bad-first}
 use Rattle.refusals.specs.declared.Verdict.{Verdict}
 use Rattle.refusals.specs.declared.Verdict.the-variants.{Passed, Refused}
-use Rattle.refusals.specs.FirstBroken.{Rule, rule, firstBroken}
+use Rattle.refusals.specs.FirstBroken.{Rule, refusedAt, firstBroken}
 use Rattle.refusals.specs.Rules.{rules, checked}
 use Rattle.refusals.proofs.FirstBroken.{andThen, broken-append, first-broken}
 use Rattle.refusals.proofs.Theorems.{accepted-passes, first}
 use Rattle.picture.specs.Picture.{width, height, pictureRow, pictureCells, pictureColours}
-use Rattle.picture.specs.Painted.{room, scratchRoom, outsideSheet, tooLittleRoom, bandJudged, plainJudged, colouredJudged, bandRules, paintRules, afterwards}
+use Rattle.picture.specs.Painted.{room, outsideSheet, tooLittleRoom, bandJudged, plainRooms, colouredRooms, lentRules, callRules, bandRules, paintRules, afterwards}
 use Rattle.picture.proofs.Statements.{Holds, AsChecked}
 use Rattle.picture.proofs.Laws.{cells-length, colours-length, cells-join, colours-join}
 
@@ -45,35 +47,83 @@ pub same-needed :
 same-needed v w needed lent other n long e p =
     holds-needed v needed lent n needed long refl p .needed ∙ sym (holds-needed w needed other n needed long refl (sym e ∙ p) .needed)
 
--- The verdict.
-module _ (image : List ℕ) (top rows : ℕ) (lent : List Judged) where
-  abbrev added : List Rule
-  added = bandRules image top rows lent
+-- Rules that all have a code do not refuse with code 0.
 
-  parts : firstBroken (paintRules image top rows lent) ≡ andThen (firstBroken (rules image)) (firstBroken added)
-  unfolding paintRules
-  parts = broken-append (rules image) added
+no-code-now :
+    (code place : ℕ) (f : Found) (later : Verdict) → 0 < code → (later ≡ Refused 0 place → ⊥) → refusedAt code f later ≡ Refused 0 place → ⊥
+no-code-now code place found.None later some none e = none e
+no-code-now code place (found.At p) later some none e = let zero : code ≡ 0 = cc in omega arith
+
+pub no-code : (rs : List Rule) (place : ℕ) → every rs (λ r. ltb 0 (r .code)) ≡ true → firstBroken rs ≡ Refused 0 place → ⊥
+unfolding every firstBroken
+no-code [] place h e = let z : _≡_ {A = ℕ} 0 1 = cc in omega arith
+no-code (r ∷ rs) place h e =
+    no-code-now (r .code) place (firstBad (r .looked)) (firstBroken rs) (ltb-true 0 (r .code) (and-left (ltb 0 (r .code)) _ h))
+    (no-code rs place (and-right (ltb 0 (r .code)) _ h)) e
+
+-- The verdict of a call, whatever 11 and 12 look at.
+module _ (image : List ℕ) (asked lent : List Judged) where
+  abbrev verdict : Verdict
+  verdict = firstBroken (callRules image asked lent)
+
+  parts : verdict ≡ andThen (firstBroken (rules image)) (firstBroken (lentRules asked lent))
+  unfolding callRules
+  parts = broken-append (rules image) (lentRules asked lent)
+
+  -- what the check refuses is refused as the check does
+  pub call-refused : (checked image .code ≡ 0 → ⊥) → verdict ≡ Refused (checked image .code) (checked image .place)
+  call-refused n = parts ∙ rw (first-broken (rules image) _ _ (first image n))
 
   -- where the check accepts, it is that of the two rules added to the check's
+  pub call-verdict : checked image .code ≡ 0 → verdict ≡ firstBroken (lentRules asked lent)
+  call-verdict z = parts ∙ rw (accepted-passes image z)
+
+  pub call-outside : checked image .code ≡ 0 → (place : ℕ) → firstBad asked ≡ found.At place → verdict ≡ Refused outsideSheet place
+  unfolding firstBroken
+  call-outside z place b = call-verdict z ∙ rw b
+
+  module _ (z : checked image .code ≡ 0) (fine : every asked (λ j. j .good) ≡ true) where
+    pub call-short : (place : ℕ) → FirstBad lent place → verdict ≡ Refused tooLittleRoom place
+    unfolding firstBroken
+    call-short place b = call-verdict z ∙ rw (all-good asked fine, bad-first lent place b)
+
+    pub call-passed : every lent (λ j. j .good) ≡ true → verdict ≡ Passed
+    unfolding firstBroken
+    call-passed all = call-verdict z ∙ rw (all-good asked fine, all-good lent all)
+
+  -- a refusal has a code
+  pub call-code : (place : ℕ) → verdict ≡ Refused 0 place → ⊥
+  unfolding every
+  call-code place e =
+      by-bool (eqb (checked image .code) 0)
+      (λ z. no-code (lentRules asked lent) place refl (sym (call-verdict (eqb-true _ _ z)) ∙ e))
+      (λ n.
+      let some = eqb-false (checked image .code) 0 n in
+      let r = call-refused some in
+      some (cc))
+
+-- The verdict on a band.
+module _ (image : List ℕ) (top rows : ℕ) (lent : List Judged) where
+  inside-good : top + rows ≤ height image → every (bandJudged image top rows) (λ j. j .good) ≡ true
+  unfolding every bandJudged
+  inside-good h = rw (le-leb _ _ h)
+
+  outside-bad : height image < top + rows → firstBad (bandJudged image top rows) ≡ found.At 0
+  unfolding firstBad bandJudged
+  outside-bad h = rw (lt-leb _ _ h)
+
   pub band-verdict : checked image .code ≡ 0 → firstBroken (paintRules image top rows lent) ≡ firstBroken (bandRules image top rows lent)
-  band-verdict z = parts ∙ rw (accepted-passes image z)
-
-  room-verdict : top + rows ≤ height image → firstBroken added ≡ firstBroken (rule tooLittleRoom lent ∷ [])
-  unfolding firstBroken bandJudged firstBad
-  room-verdict h = rw (le-leb _ _ h)
-
-  outside-verdict : height image < top + rows → firstBroken added ≡ Refused outsideSheet 0
-  unfolding firstBroken bandJudged firstBad
-  outside-verdict h = rw (lt-leb _ _ h)
+  band-verdict z = call-verdict image (bandJudged image top rows) lent z
 
   pub as-checked : AsChecked image top rows lent (firstBroken (paintRules image top rows lent))
-  unfolding firstBroken
-  as-checked = record {
-    refused = λ n. parts ∙ rw (first-broken (rules image) _ _ (first image n));
-    outside = λ z h. band-verdict z ∙ outside-verdict h;
-    short = λ z h place b. band-verdict z ∙ room-verdict h ∙ rw (bad-first lent place b);
-    passed = λ z h all. band-verdict z ∙ room-verdict h ∙ rw (all-good lent all);
-  }
+  as-checked =
+      let asked = bandJudged image top rows in
+      record {
+        refused = λ n. call-refused image asked lent n;
+        outside = λ z h. call-outside image asked lent z 0 (outside-bad h);
+        short = λ z h place b. call-short image asked lent z (inside-good h) place b;
+        passed = λ z h all. call-passed image asked lent z (inside-good h) all;
+      }
 
 -- What painting passes, check accepts.
 pub passed-accepted :
@@ -85,15 +135,15 @@ passed-accepted image first rows lent v a passed =
 
 -- Enough room is no short buffer.
 
-module _ (image : List ℕ) (rows : ℕ) (cells scratch : List ℕ) (roomy : room image rows ≤ length cells) (spare : scratchRoom image ≤ length scratch) where
-  pub plain-room : every (plainJudged image rows cells scratch) (λ j. j .good) ≡ true
-  unfolding every plainJudged
+module _ (words needed : ℕ) (cells scratch : List ℕ) (roomy : words ≤ length cells) (spare : needed ≤ length scratch) where
+  pub plain-room : every (plainRooms words needed cells scratch) (λ j. j .good) ≡ true
+  unfolding every plainRooms
   plain-room = rw (le-leb _ _ roomy, le-leb _ _ spare)
 
   pub coloured-room :
-      (colours stamps : List ℕ) → room image rows ≤ length colours → room image rows ≤ length stamps →
-      every (colouredJudged image rows cells colours stamps scratch) (λ j. j .good) ≡ true
-  unfolding every colouredJudged
+      (colours stamps : List ℕ) → words ≤ length colours → words ≤ length stamps →
+      every (colouredRooms words needed cells colours stamps scratch) (λ j. j .good) ≡ true
+  unfolding every colouredRooms
   coloured-room colours stamps wide tall = rw (le-leb _ _ roomy, le-leb _ _ wide, le-leb _ _ tall, le-leb _ _ spare)
 
 -- Rows that are cut out of a band, whatever lies past it, are those rows of the picture.

@@ -1,9 +1,9 @@
 -- What the theorems say, where it takes more than an equation.
 use Prim.Native.Nat.{ℕ, _+_, _*_, _≤_, _<_}
 use mathlib.Core.Bool.{true}
-use mathlib.Core.List.{List, [], _∷_, _++_}
+use mathlib.Core.List.{List, [], _∷_, _++_, map}
 use mathlib.Core.Path.{_≡_}
-use lib.ListN.{take, drop, replicate}
+use lib.ListN.{length, take, drop, replicate}
 use Rattle.ground.specs.Each.{every}
 use Rattle.ground.specs.Judged.{Judged, FirstBad}
 use Rattle.layout.specs.Layout.{headerRuns, headerElements}
@@ -14,7 +14,7 @@ use Rattle.refusals.specs.declared.Verdict.{Verdict}
 use Rattle.refusals.specs.declared.Verdict.the-variants.{Passed, Refused}
 use Rattle.refusals.specs.Rules.{checked}
 use Rattle.picture.specs.Picture.{height, pictureCells, pictureColours}
-use Rattle.picture.specs.Painted.{room, scratchRoom, outsideSheet, tooLittleRoom, Painted, PaintedColoured}
+use Rattle.picture.specs.Painted.{room, scratchRoom, outsideSheet, tooLittleRoom, Painted, painted, PaintedColoured, paintedColoured}
 
 -- A window.
 
@@ -38,6 +38,65 @@ rowsOf (rows ∷ rest) = rows + rowsOf rest
 unfoldable pub bands : (ℕ → ℕ → List ℕ) → ℕ → List ℕ → List ℕ
 bands band first [] = []
 bands band first (rows ∷ rest) = band first rows ++ bands band (first + rows) rest
+
+-- Bands, each painted by a call of its own.
+
+-- what is lent to one call
+pub record OneBand : Type 0 where
+  -- how many rows its band has
+  pub rows : ℕ
+  pub cells : List ℕ
+  pub scratch : List ℕ
+
+-- the same with colours
+pub record OneColouredBand : Type 0 where
+  pub rows : ℕ
+  pub cells : List ℕ
+  pub colours : List ℕ
+  pub stamps : List ℕ
+  pub scratch : List ℕ
+
+-- it has the stated room
+
+abbrev pub Roomy : List ℕ → OneBand → Type 0
+Roomy image b = (room image (b .rows) ≤ length (b .cells)) × (scratchRoom image ≤ length (b .scratch))
+
+abbrev pub RoomyColoured : List ℕ → OneColouredBand → Type 0
+RoomyColoured image b =
+    (room image (b .rows) ≤ length (b .cells))
+    × (room image (b .rows) ≤ length (b .colours))
+    × (room image (b .rows) ≤ length (b .stamps))
+    × (scratchRoom image ≤ length (b .scratch))
+
+-- how many rows they have together
+
+abbrev pub rowsLent : List OneBand → ℕ
+rowsLent lent = rowsOf (map (λ b. b .rows) lent)
+
+abbrev pub colouredRowsLent : List OneColouredBand → ℕ
+colouredRowsLent lent = rowsOf (map (λ b. b .rows) lent)
+
+-- what each leaves by its first row, one after the other
+unfoldable pub inTurn : {A : Type 0} → (A → ℕ) → (ℕ → A → List ℕ) → ℕ → List A → List ℕ
+inTurn rows left first [] = []
+inTurn rows left first (b ∷ rest) = left first b ++ inTurn rows left (first + rows b) rest
+
+-- the needed cells that `paint` leaves in bands one below the other, from a first row on
+abbrev pub cellsLeft : List ℕ → ℕ → List OneBand → List ℕ
+cellsLeft image first lent =
+    inTurn (λ b. b .rows) (λ y b. take (room image (b .rows)) (painted image y (b .rows) (b .cells) (b .scratch) .cells)) first lent
+
+-- what `paint_coloured` leaves of one band
+abbrev leftOf : List ℕ → ℕ → OneColouredBand → PaintedColoured
+leftOf image y b = paintedColoured image y (b .rows) (b .cells) (b .colours) (b .stamps) (b .scratch)
+
+-- the needed cells and the needed colours that it leaves in bands one below the other
+
+abbrev pub colouredCellsLeft : List ℕ → ℕ → List OneColouredBand → List ℕ
+colouredCellsLeft image first lent = inTurn (λ b. b .rows) (λ y b. take (room image (b .rows)) (leftOf image y b .cells)) first lent
+
+abbrev pub coloursLeft : List ℕ → ℕ → List OneColouredBand → List ℕ
+coloursLeft image first lent = inTurn (λ b. b .rows) (λ y b. take (room image (b .rows)) (leftOf image y b .colours)) first lent
 
 -- Two images.
 

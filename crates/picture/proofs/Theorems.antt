@@ -1,7 +1,8 @@
 -- What holds of the picture, and of every band that is painted.
+use native.Mathlib.Omega.{arith}
 use Prim.Native.Nat.{ℕ, _+_, _≤_, _<_}
 use mathlib.Core.List.{List, []}
-use mathlib.Core.Path.{_≡_, refl, sym, _∙_}
+use mathlib.Core.Path.{_≡_, refl, sym, ap, _∙_}
 use lib.ListN.{length, length-replicate}
 use Rattle.cell.specs.declared.Parts.the-variants.{Text}
 use Rattle.layout.specs.Tables.{tablesOf}
@@ -16,15 +17,17 @@ use Rattle.refusals.proofs.Theorems.{accepted-iff}
 use Rattle.picture.specs.Picture.{width, height, pictureRow, pictureCells, pictureColours}
 use Rattle.picture.specs.Characters.{partsAt, Character}
 use Rattle.picture.specs.Sheet.{windowPainted, emptyWindow}
-use Rattle.picture.specs.Painted.{room, scratchRoom, plainJudged, colouredJudged, plainVerdict, colouredVerdict, Painted, painted, PaintedColoured, paintedColoured}
+use Rattle.picture.specs.Painted.{room, scratchRoom, plainRooms, colouredRooms, plainJudged, colouredJudged, plainVerdict, colouredVerdict, Painted, painted, PaintedColoured, paintedColoured}
 use Rattle.picture.specs.ProofTable.{ProofTable, ExampleA}
 use Rattle.picture.proofs.Statements.{IsRows, plainWindow, rowsOf, bands, OnlyListing, AsChecked, Band, SameBand, AllKept, ColouredBand, SameColouredBand}
+use Rattle.picture.proofs.Statements.{OneBand, Roomy, rowsLent, cellsLeft, OneColouredBand, RoomyColoured, colouredRowsLent, colouredCellsLeft, coloursLeft}
+use Rattle.picture.proofs.AllOf.{AllOf}
 use Rattle.picture.proofs.Table.{table, example}
 use Rattle.picture.proofs.Laws.{window-rows, plain-rows, cells-length, colours-length}
 use Rattle.picture.proofs.Cells.{glyph-size, code-points, row-of-packings}
 use Rattle.picture.proofs.Characters.{row-characters, band-characters, printable}
 use Rattle.picture.proofs.ListFree.{one-picture}
-use Rattle.picture.proofs.Bands.{cells-bands, colours-bands}
+use Rattle.picture.proofs.Bands.{cells-bands, colours-bands, cells-turns, colours-turns}
 use Rattle.picture.proofs.Answers.{kept-on-refusal, holds-needed, same-needed, as-checked, passed-accepted, plain-room, coloured-room, cells-of-whole, colours-of-whole}
 
 -- The cases P1 to P10 of the proof table hold.
@@ -124,7 +127,7 @@ pub band-is-picture :
 unfolding painted
 band-is-picture image first rows cells scratch accepted inside roomy spare =
     let good : plainVerdict image first rows cells scratch ≡ Passed
-    = as-checked image first rows _ .passed accepted inside (plain-room image rows cells scratch roomy spare) in
+    = as-checked image first rows _ .passed accepted inside (plain-room _ _ cells scratch roomy spare) in
     record {
       verdict = good;
       cells = holds-needed _ _ cells _ _ (cells-length image first rows) (cells-of-whole image first rows inside) good;
@@ -137,7 +140,7 @@ pub whichever-before :
     length cells ≡ length cells′ →
     length scratch ≡ length scratch′ →
     SameBand image rows (painted image first rows cells scratch) (painted image first rows cells′ scratch′)
-unfolding painted plainJudged
+unfolding painted plainRooms
 whichever-before image first rows cells cells′ scratch scratch′ e e′ =
     let same : plainVerdict image first rows cells scratch ≡ plainVerdict image first rows cells′ scratch′ = rw (e, e′) in
     record {
@@ -145,6 +148,21 @@ whichever-before image first rows cells cells′ scratch scratch′ e e′ =
       cells = same-needed _ _ _ cells cells′ _ (cells-length image first rows) same;
       scratch = same-needed _ _ _ scratch scratch′ _ (length-replicate (scratchRoom image) 0) same;
     }
+
+-- Bands of an accepted image, painted one below the other into any buffers that have room, join to its rows: however cut, and whatever stood in the buffers.
+pub painted-join :
+    (image : List ℕ) → checked image .code ≡ 0 → (first : ℕ) (lent : List OneBand) → AllOf (Roomy image) lent → first + rowsLent lent ≤ height image →
+    cellsLeft image first lent ≡ pictureCells image first (rowsLent lent)
+painted-join image accepted first lent roomy inside =
+    cells-turns image (λ b. b .rows) _ (Roomy image) first lent roomy inside
+    (λ y b r h. band-is-picture image y (b .rows) (b .cells) (b .scratch) accepted h (r .0) (r .1) .cells .needed ∙ sym (cells-of-whole image y (b .rows) h))
+
+-- So bands that have all rows join to the whole sheet.
+pub painted-whole :
+    (image : List ℕ) → checked image .code ≡ 0 → (lent : List OneBand) → AllOf (Roomy image) lent → rowsLent lent ≡ height image →
+    cellsLeft image 0 lent ≡ pictureCells image 0 (height image)
+painted-whole image accepted lent roomy whole =
+    painted-join image accepted 0 lent roomy (omega (arith, whole)) ∙ ap (pictureCells image 0) whole
 
 -- Where paint passes, no needed cell that it leaves holds a control character.
 pub band-no-control :
@@ -201,7 +219,7 @@ pub band-is-picture-coloured :
 unfolding paintedColoured
 band-is-picture-coloured image first rows cells colours stamps scratch accepted inside roomy wide tall spare =
     let good : colouredVerdict image first rows cells colours stamps scratch ≡ Passed
-    = as-checked image first rows _ .passed accepted inside (coloured-room image rows cells scratch roomy spare colours stamps wide tall) in
+    = as-checked image first rows _ .passed accepted inside (coloured-room _ _ cells scratch roomy spare colours stamps wide tall) in
     record {
       verdict = good;
       cells = holds-needed _ _ cells _ _ (cells-length image first rows) (cells-of-whole image first rows inside) good;
@@ -219,7 +237,7 @@ pub whichever-before-coloured :
     length scratch ≡ length scratch′ →
     SameColouredBand image rows (paintedColoured image first rows cells colours stamps scratch)
     (paintedColoured image first rows cells′ colours′ stamps′ scratch′)
-unfolding paintedColoured colouredJudged
+unfolding paintedColoured colouredRooms
 whichever-before-coloured image first rows cells cells′ colours colours′ stamps stamps′ scratch scratch′ e f g h =
     let same : colouredVerdict image first rows cells colours stamps scratch ≡ colouredVerdict image first rows cells′ colours′ stamps′ scratch′
     = rw (e, f, g, h) in
@@ -230,6 +248,29 @@ whichever-before-coloured image first rows cells cells′ colours colours′ sta
       stamps = same-needed _ _ _ stamps stamps′ _ (length-replicate (room image rows) 0) same;
       scratch = same-needed _ _ _ scratch scratch′ _ (length-replicate (scratchRoom image) 0) same;
     }
+
+-- Coloured bands of an accepted image join to its rows and to their colours.
+pub painted-join-coloured :
+    (image : List ℕ) → checked image .code ≡ 0 → (first : ℕ) (lent : List OneColouredBand) → AllOf (RoomyColoured image) lent →
+    first + colouredRowsLent lent ≤ height image →
+    (colouredCellsLeft image first lent ≡ pictureCells image first (colouredRowsLent lent))
+    × (coloursLeft image first lent ≡ pictureColours image first (colouredRowsLent lent))
+painted-join-coloured image accepted first lent roomy inside =
+    let left : (y : ℕ) (b : OneColouredBand) → RoomyColoured image b → y + b .rows ≤ height image → ColouredBand image y (b .rows) _ _ _ _ _
+    = λ y b r h. band-is-picture-coloured image y (b .rows) (b .cells) (b .colours) (b .stamps) (b .scratch) accepted h (r .0) (r .1) (r .2) (r .3) in (
+      cells-turns image (λ b. b .rows) _ (RoomyColoured image) first lent roomy inside
+          (λ y b r h. left y b r h .cells .needed ∙ sym (cells-of-whole image y (b .rows) h)),
+      colours-turns image (λ b. b .rows) _ (RoomyColoured image) first lent roomy inside
+          (λ y b r h. left y b r h .colours .needed ∙ sym (colours-of-whole image y (b .rows) h)),
+    )
+
+-- So coloured bands that have all rows join to the whole sheet.
+pub painted-whole-coloured :
+    (image : List ℕ) → checked image .code ≡ 0 → (lent : List OneColouredBand) → AllOf (RoomyColoured image) lent → colouredRowsLent lent ≡ height image →
+    (colouredCellsLeft image 0 lent ≡ pictureCells image 0 (height image)) × (coloursLeft image 0 lent ≡ pictureColours image 0 (height image))
+painted-whole-coloured image accepted lent roomy whole =
+    let join = painted-join-coloured image accepted 0 lent roomy (omega (arith, whole)) in
+    (join .0 ∙ ap (pictureCells image 0) whole, join .1 ∙ ap (pictureColours image 0) whole)
 
 -- Where it passes, no needed cell that it leaves holds a control character.
 pub band-no-control-coloured :

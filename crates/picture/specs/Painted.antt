@@ -37,25 +37,35 @@ bandJudged image first rows = judged 0 (leb (first + rows) (height image)) ∷ [
 abbrev pub roomJudged : ℕ → ℕ → List ℕ → Judged
 roomJudged place wanted lent = judged place (leb wanted (length lent))
 
-unfoldable pub plainJudged : List ℕ → ℕ → List ℕ → List ℕ → List Judged
-plainJudged image rows cells scratch =
-    roomJudged 1 (room image rows) cells ∷ roomJudged 4 (scratchRoom image) scratch ∷ []
+-- where so many words are wanted of each plane, and so many of scratch
+unfoldable pub plainRooms : ℕ → ℕ → List ℕ → List ℕ → List Judged
+plainRooms words needed cells scratch = roomJudged 1 words cells ∷ roomJudged 4 needed scratch ∷ []
 
-unfoldable pub colouredJudged : List ℕ → ℕ → List ℕ → List ℕ → List ℕ → List ℕ → List Judged
+unfoldable pub colouredRooms : ℕ → ℕ → List ℕ → List ℕ → List ℕ → List ℕ → List Judged
+colouredRooms words needed cells colours stamps scratch =
+    roomJudged 1 words cells ∷ roomJudged 2 words colours ∷ roomJudged 3 words stamps ∷ roomJudged 4 needed scratch ∷ []
+
+-- of a band
+abbrev pub plainJudged : List ℕ → ℕ → List ℕ → List ℕ → List Judged
+plainJudged image rows cells scratch = plainRooms (room image rows) (scratchRoom image) cells scratch
+
+abbrev pub colouredJudged : List ℕ → ℕ → List ℕ → List ℕ → List ℕ → List ℕ → List Judged
 colouredJudged image rows cells colours stamps scratch =
-    roomJudged 1 (room image rows) cells
-    ∷ roomJudged 2 (room image rows) colours
-    ∷ roomJudged 3 (room image rows) stamps
-    ∷ roomJudged 4 (scratchRoom image) scratch
-    ∷ []
+    colouredRooms (room image rows) (scratchRoom image) cells colours stamps scratch
 
--- "Check gives 1 to 10, paint 1 to 12."
+-- "Check gives 1 to 10, paint 1 to 12.": what 11 looks at, and what 12
+
+abbrev pub lentRules : List Judged → List Judged → List Rule
+lentRules asked lent = rule outsideSheet asked ∷ rule tooLittleRoom lent ∷ []
+
+unfoldable pub callRules : List ℕ → List Judged → List Judged → List Rule
+callRules image asked lent = rules image ++ lentRules asked lent
 
 abbrev pub bandRules : List ℕ → ℕ → ℕ → List Judged → List Rule
-bandRules image first rows lent = rule outsideSheet (bandJudged image first rows) ∷ rule tooLittleRoom lent ∷ []
+bandRules image first rows lent = lentRules (bandJudged image first rows) lent
 
-unfoldable pub paintRules : List ℕ → ℕ → ℕ → List Judged → List Rule
-paintRules image first rows lent = rules image ++ bandRules image first rows lent
+abbrev pub paintRules : List ℕ → ℕ → ℕ → List Judged → List Rule
+paintRules image first rows lent = callRules image (bandJudged image first rows) lent
 
 abbrev pub plainVerdict : List ℕ → ℕ → ℕ → List ℕ → List ℕ → Verdict
 plainVerdict image first rows cells scratch = firstBroken (paintRules image first rows (plainJudged image rows cells scratch))

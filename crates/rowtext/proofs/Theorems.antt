@@ -1,13 +1,14 @@
--- What the text of a row amounts to: how long it is at most, that without colours it is the plain text, and that without its sequences it is too.
+-- What the text of a row amounts to: how long it is at most, and that of a band, that without colours it is the plain text, and that without its sequences it is too.
 use native.Mathlib.Omega.{arith}
-use Prim.Native.Nat.{ℕ, suc, _+_, _*_, _/_, _%_, _≤_, _<_}
+use native.Mathlib.Nat.{suc-mul}
+use Prim.Native.Nat.{ℕ, zero, suc, _+_, _*_, _/_, _%_, _≤_, _<_}
 use mathlib.Core.Bool.{Bool, true, false, not}
 use mathlib.Core.List.{List, [], _∷_, _++_, append-assoc}
 use mathlib.Core.Path.{_≡_, refl, sym, _∙_}
 use lib.Dec.{eqb}
-use lib.ListN.{length, getD, drop, length-append}
+use lib.ListN.{length, getD, drop, length-append, length-take}
 use borrow.Author.Tests.{ne-eqb, not-true}
-use Rattle.ground.specs.Each.{each, every}
+use Rattle.ground.specs.Each.{numbers, each, every}
 use Rattle.ground.proofs.Each.{by-bool, and-left, and-right}
 use Rattle.ground.proofs.Order.{by-order}
 use Rattle.cell.specs.OneCell.{read}
@@ -20,7 +21,7 @@ use Rattle.sequence.specs.Sequence.{decimal, numeral, semicolon, ending, redGre
 use Rattle.sequence.proofs.Laws.{one-digit, two-digits, three-digits, is-reset, is-basic, is-indexed, is-direct}
 use Rattle.sequence.proofs.Theorems.{by-kind, sequence-length, zero-resets}
 use Rattle.rowtext.specs.Text.{feed, shapeText, cellText, rowText}
-use Rattle.rowtext.specs.Coloured.{changeTo, shapeColoured, colourAfter, colouredFrom, colouredRow, outside, withoutSequences}
+use Rattle.rowtext.specs.Coloured.{changeTo, shapeColoured, colourAfter, colouredFrom, colouredRow, rowAt, bandText, colouredRoom, outside, withoutSequences}
 
 -- Room.
 
@@ -67,6 +68,20 @@ from-room now (w ∷ row) colours =
 -- 23 × width + 5 bytes are room for its coloured text.
 pub coloured-row-room : (row colours : List ℕ) → length (colouredRow row colours) ≤ 23 * length row + 5
 coloured-row-room row colours = from-room 0 row colours
+
+-- as many bytes as each row has at most
+pub rows-room : (f : ℕ → List ℕ) (most first n : ℕ) → ((y : ℕ) → length (f y) ≤ most) → length (each (numbers first n) f) ≤ n * most
+unfolding each numbers
+rows-room f most first zero h = omega arith
+rows-room f most first (suc n) h =
+    rw (suc-mul n most) (simp length-append (omega (arith, h first, rows-room f most (suc first) n h)))
+
+-- rows × (23 × width + 5) bytes are room for the text of so many rows, whatever the cells and the colours.
+pub band-room : (width rows : ℕ) (cells colours : List ℕ) → length (bandText width rows cells colours) ≤ colouredRoom width rows
+unfolding bandText
+band-room width rows cells colours =
+    rows-room (λ r. colouredRow (rowAt width cells r) (rowAt width colours r)) (23 * width + 5) 0 rows
+    (λ r. omega (arith, coloured-row-room (rowAt width cells r) (rowAt width colours r), length-take width (drop (width * r) cells)))
 
 -- Without colours.
 

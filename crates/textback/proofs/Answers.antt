@@ -1,41 +1,23 @@
 -- Where a call that writes text answers code 0, the image is accepted, and the bytes that it answers are the text.
-use native.Mathlib.Omega.{arith}
-use Prim.Native.Nat.{ℕ, _<_}
+use Prim.Native.Nat.{ℕ}
 use mathlib.Core.Path.{_≡_, refl, sym, ap, _∙_}
-use mathlib.Core.Bool.{true}
-use mathlib.Core.List.{List, [], _∷_, _++_}
-use lib.Dec.{eqb, ltb}
+use mathlib.Core.List.{List, _++_}
+use lib.Dec.{eqb}
 use lib.ListN.{length, take, drop}
 use lib.Seq.{take-at}
-use borrow.Author.Tests.{ltb-true, eqb-true, eqb-false}
-use Rattle.ground.specs.declared.Found.{Found}
-use Rattle.ground.specs.declared.Found.the-variants as found
+use borrow.Author.Tests.{eqb-true, eqb-false}
 use Rattle.ground.specs.Each.{every}
-use Rattle.ground.specs.Judged.{Judged, firstBad}
-use Rattle.ground.proofs.Each.{by-bool, and-left, and-right}
+use Rattle.ground.specs.Judged.{Judged}
+use Rattle.ground.proofs.Each.{by-bool}
 use Rattle.refusals.specs.declared.Verdict.{Verdict}
 use Rattle.refusals.specs.declared.Verdict.the-variants.{Passed, Refused}
-use Rattle.refusals.specs.FirstBroken.{Rule, refusedAt, firstBroken}
+use Rattle.refusals.specs.FirstBroken.{firstBroken}
 use Rattle.refusals.specs.Rules.{checked}
 use Rattle.refusals.proofs.FirstBroken.{andThen, broken-append}
 use Rattle.picture.specs.Painted.{bandRules, paintRules, afterwards}
-use Rattle.picture.proofs.Answers.{band-verdict, as-checked, passed-accepted}
+use Rattle.picture.proofs.Answers.{no-code, band-verdict, as-checked, passed-accepted}
 use Rattle.painttext.specs.declared.Written.{Written}
 use Rattle.painttext.specs.PaintedText.{outputRules, writtenVerdict, writtenOf}
-
--- rules that all have a code do not refuse with code 0
-
-no-code-now :
-    (code place : ℕ) (f : Found) (later : Verdict) → 0 < code → (later ≡ Refused 0 place → ⊥) → refusedAt code f later ≡ Refused 0 place → ⊥
-no-code-now code place found.None later some none e = none e
-no-code-now code place (found.At p) later some none e = let zero : code ≡ 0 = cc in omega arith
-
-no-code : (rs : List Rule) (place : ℕ) → every rs (λ r. ltb 0 (r .code)) ≡ true → firstBroken rs ≡ Refused 0 place → ⊥
-unfolding every firstBroken
-no-code [] place h e = let z : _≡_ {A = ℕ} 0 1 = cc in omega arith
-no-code (r ∷ rs) place h e =
-    no-code-now (r .code) place (firstBad (r .looked)) (firstBroken rs) (ltb-true 0 (r .code) (and-left (ltb 0 (r .code)) _ h))
-    (no-code rs place (and-right (ltb 0 (r .code)) _ h)) e
 
 -- where two verdicts one after the other pass, the first does
 first-passes : (v w : Verdict) → andThen v w ≡ Passed → v ≡ Passed

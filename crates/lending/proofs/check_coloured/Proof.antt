@@ -1,6 +1,6 @@
 -- `check_coloured` finds the first rule of codes 11 and 12 that a coloured band breaks.
 use borrow.Author.Needs.{needs}
-use Rattle.lending.proofs.Laws.{band-outside, coloured-cells, coloured-colours, coloured-stamps, coloured-scratch, coloured-fine}
+use Rattle.lending.proofs.Laws.{band-outside, coloured-inside}
 use Rattle.lending.proofs.check_coloured.Statement.{statement}
 use Rattle.lending.proofs.check_coloured.Tie as tie
 
@@ -13,15 +13,4 @@ check-coloured-spec =
     (λ c κs. c .before .is-outside .ensures .1 (c .if1 .left))
     (λ c κs. search needs)
     (λ c κs. search needs)
-    (λ c. search (coloured-cells, needs))
-    (λ c κs. search needs)
-    (λ c κs. search needs)
-    (λ c. search (coloured-colours, needs))
-    (λ c κs. search needs)
-    (λ c κs. search needs)
-    (λ c. search (coloured-stamps, needs))
-    (λ c κs. search needs)
-    (λ c κs. search needs)
-    (λ c κs. search needs)
-    (λ c. search (coloured-scratch, needs))
-    (λ c. search (coloured-fine, needs)))
+    (λ c. search (coloured-inside, needs)))

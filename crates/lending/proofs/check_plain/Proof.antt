@@ -1,6 +1,6 @@
 -- `check_plain` finds the first rule of codes 11 and 12 that a plain band breaks.
 use borrow.Author.Needs.{needs}
-use Rattle.lending.proofs.Laws.{band-outside, plain-cells, plain-scratch, plain-fine}
+use Rattle.lending.proofs.Laws.{band-outside, plain-inside}
 use Rattle.lending.proofs.check_plain.Statement.{statement}
 use Rattle.lending.proofs.check_plain.Tie as tie
 
@@ -13,9 +13,4 @@ check-plain-spec =
     (λ c κs. c .before .is-outside .ensures .1 (c .if1 .left))
     (λ c κs. search needs)
     (λ c κs. search needs)
-    (λ c. search (plain-cells, needs))
-    (λ c κs. search needs)
-    (λ c κs. search needs)
-    (λ c κs. search needs)
-    (λ c. search (plain-scratch, needs))
-    (λ c. search (plain-fine, needs)))
+    (λ c. search (plain-inside, needs)))

@@ -3,7 +3,7 @@ use borrow.Author.Needs.{needs}
 use native.Mathlib.Omega.{arith}
 use Prim.Native.Nat.{ℕ}
 use mathlib.Core.Path.{ap, _∙_}
-use Rattle.picture.specs.Painted.{colouredJudged}
+use Rattle.picture.specs.Painted.{colouredRooms}
 use Rattle.rowtext.specs.Coloured.{colouredRoom}
 use Rattle.painttext.proofs.Laws.{refused-before, coloured-within, then-output}
 use Rattle.painttext.proofs.text_coloured_verdict.Statement.{statement}
@@ -12,7 +12,7 @@ use Rattle.painttext.proofs.text_coloured_verdict.Tie as tie
 returns : tie.Need-returns
 returns c =
     let judged = c .before .before in
-    refused-before _ _ _ (colouredJudged _ _ _ _ _ _) _ _ _ (judged .coloured-verdict .ensures) _ _ (c .enum-told2 .given .1)
+    refused-before _ _ _ (colouredRooms _ _ _ _ _ _) _ _ _ (judged .coloured-verdict .ensures) _ _ (c .enum-told2 .given .1)
 
 coloured-room-requires : tie.Need-coloured-room-requires
 coloured-room-requires c κs =
@@ -30,7 +30,7 @@ returns-2 c =
     let judged = passed .before .before in
     let start = judged .before .before .before .before .before .before .before in
     let width = ap (λ (n : ℕ). colouredRoom n (start .args .rows)) (number .number .ensures .0 ∙ word .word .ensures) in
-    then-output _ _ _ (colouredJudged _ _ _ _ _ _) _ _ _ (judged .coloured-verdict .ensures) _ _ (passed .enum-told .given .1) (room .coloured-room .ensures ∙ width) (c .output-verdict .ensures)
+    then-output _ _ _ (colouredRooms _ _ _ _ _ _) _ _ _ (judged .coloured-verdict .ensures) _ _ (passed .enum-told .given .1) (room .coloured-room .ensures ∙ width) (c .output-verdict .ensures)
 
 pub text-coloured-verdict-spec : {M : Type 1} → statement M
 text-coloured-verdict-spec =
