@@ -1,0 +1,3 @@
+-- Laws of the sweep.
+pub mod Laws
+pub mod Theorems
