@@ -1,8 +1,9 @@
 /*
- * pivotdawn.h: check a sheet image, paint any band of its rows, and write it as text.
+ * pivotdawn.h: check a sheet image, paint any band of its rows, or all of them, and write a
+ * band as text.
  *
  * The archive that `rt staticlib pivotdawn` writes, target/staticlib/libpivotdawn.a, holds
- * the five functions declared at the end. Plain C99; C++ may include it too.
+ * the seven functions declared at the end. Plain C99; C++ may include it too.
  *
  *   1. Get the image into memory, as words.
  *   2. Ask pivotdawn_check, once. It answers PIVOTDAWN_ACCEPTED, or why not and where.
@@ -11,6 +12,11 @@
  *   4. Call pivotdawn_paint for each band, and read the cells. Or have each band as text:
  *      allocate as many bytes as pivotdawn_text_bytes says, call pivotdawn_paint_text, and
  *      write the bytes out.
+ *
+ * Where there is memory for the cells of the whole sheet, one call of pivotdawn_paint_sheet
+ * does in place of a call for each band: pivotdawn_sheet_words and
+ * pivotdawn_sheet_scratch_words say how many words it wants. It checks the image once, where
+ * each call for a band checks it again.
  *
  * Nothing is allocated, opened, printed or kept by a call. All memory is the caller's, and
  * is the caller's again when the call returns.
@@ -44,10 +50,12 @@
  * image too, as long as no two share a buffer that is written.
  *
  * Leave a call 32 KiB of stack. Nothing calls itself, and the arrays on the stack are of
- * fixed size, whatever the image. Measured, by filling the stack of a thread, calling, and
- * looking how far down it was written, over 656 bands of various images: check 13,111 bytes,
- * painting 17,999, coloured painting 18,263; the most of x86-64 and Arm. On x86-64 alone, over
- * 774 bands and with the frame of the caller: text 18,295, coloured text 18,311.
+ * fixed size, whatever the image. Measured on x86-64, by filling the stack of a thread,
+ * calling, and looking how far down it was written, with the frame of the caller, over 215
+ * images, 10,491 bands of them, and each whole at up to ten band heights: check 13,096 bytes,
+ * painting 18,760, coloured or not, text 18,760, coloured text 18,776, a whole sheet 18,792, a
+ * coloured one 18,808. On Arm, when there was no call for a whole sheet or for text: check at
+ * most 13,111, painting at most 18,263.
  */
 #ifndef PIVOTDAWN_H
 #define PIVOTDAWN_H
@@ -65,7 +73,8 @@ extern "C" {
  * is. A word is given by its index in the image.
  */
 enum pivotdawn_code {
-    /* checked: the image keeps every rule; painted: the band is in the cells. place 0 */
+    /* checked: the image keeps every rule; painted: the band, or the sheet, is in the cells.
+       place 0 */
     PIVOTDAWN_ACCEPTED = 0,
     /* fewer words than a header has. place 0 */
     PIVOTDAWN_NO_HEADER = 1,
@@ -93,7 +102,8 @@ enum pivotdawn_code {
     PIVOTDAWN_ROW_UNLISTED = 9,
     /* the sheet has more runs than the header's run capacity. place 2, that header word */
     PIVOTDAWN_FEW_RUNS = 10,
-    /* the band goes past the last row of the sheet. place 0 */
+    /* the band goes past the last row of the sheet: place 0. The band height of a whole sheet
+       is 0: place 1 */
     PIVOTDAWN_BAND_OUTSIDE = 11,
     /* a buffer is too short. place: which, an enum pivotdawn_buffer; the first such one */
     PIVOTDAWN_SHORT_BUFFER = 12,
@@ -155,8 +165,8 @@ enum pivotdawn_header {
 
 /*
  * Room. Only of an image that pivotdawn_check accepts, and of rows that it has: then no
- * plane is over 33,553,408 words, no scratch over 134,144, no text over 134,246,399 bytes,
- * and no coloured text over 771,892,219.
+ * plane is over 33,553,408 words, no scratch over 134,144, or 137,216 for a whole sheet, no
+ * text over 134,246,399 bytes, and no coloured text over 771,892,219.
  */
 
 /* words of the cells for a band of so many rows, and of the colours and of the stamps */
@@ -182,6 +192,19 @@ static inline size_t pivotdawn_text_bytes(const uint32_t *image, size_t rows)
 static inline size_t pivotdawn_coloured_text_bytes(const uint32_t *image, size_t rows)
 {
     return rows * (23 * (size_t)image[PIVOTDAWN_WIDTH] + 5);
+}
+
+/* words of the cells for the whole sheet, and of the colours and of the stamps */
+static inline size_t pivotdawn_sheet_words(const uint32_t *image)
+{
+    return pivotdawn_plane_words(image, image[PIVOTDAWN_HEIGHT]);
+}
+
+/* words of the scratch for the whole sheet, whatever the band height: that of a band, and a
+   word more for each element */
+static inline size_t pivotdawn_sheet_scratch_words(const uint32_t *image)
+{
+    return pivotdawn_scratch_words(image) + image[PIVOTDAWN_ELEMENTS];
 }
 
 /*
@@ -333,6 +356,44 @@ uint32_t pivotdawn_paint_text_coloured(const uint32_t *image, size_t words, size
                                        uint32_t *scratch, size_t scratch_words,
                                        uint8_t *out, size_t out_bytes,
                                        uint64_t *answer, size_t answer_words);
+
+/*
+ * Paints all rows of the sheet. Codes 0 to 13: the image is checked, once; then 11 with place
+ * 1 where `band` is 0; then 12. A sheet of 0 rows paints nothing, yet wants the scratch.
+ *
+ * band: how many rows are painted at a time, any number from 1; above the sheet's height it is
+ * one band. What the buffers hold afterwards is the same for every number; the time is not.
+ * Each band goes over the things that reach into it, so the fewer bands, the less there is to
+ * do: SIZE_MAX, one band, is the quickest or near it, and a row at a time takes the longest.
+ * Where the cells of the sheet are more than the processor's cache holds, as many rows as do
+ * fit can be quicker still. docs/BENCHMARKS.md has times.
+ * cells: pivotdawn_sheet_words. Painted, they hold the rows, one after the other, from the
+ * left: the words that pivotdawn_paint leaves of row 0 and all rows of the sheet.
+ * scratch: pivotdawn_sheet_scratch_words, to work in. Painted, they are 0.
+ * answer[PIVOTDAWN_PLACE]: the place; 0 where painted.
+ *
+ * Refused, no word of cells and scratch changes.
+ */
+uint32_t pivotdawn_paint_sheet(const uint32_t *image, size_t words, size_t band,
+                               uint32_t *cells, size_t cell_words,
+                               uint32_t *scratch, size_t scratch_words,
+                               uint64_t *answer, size_t answer_words);
+
+/*
+ * The same with colours. The cells are those of pivotdawn_paint_sheet.
+ *
+ * colours: pivotdawn_sheet_words. Painted, they hold the colour of each cell, as
+ * pivotdawn_paint_coloured leaves it.
+ * stamps: pivotdawn_sheet_words, to work in. Painted, they are 0.
+ *
+ * Refused, no word of cells, colours, stamps and scratch changes.
+ */
+uint32_t pivotdawn_paint_sheet_coloured(const uint32_t *image, size_t words, size_t band,
+                                        uint32_t *cells, size_t cell_words,
+                                        uint32_t *colours, size_t colour_words,
+                                        uint32_t *stamps, size_t stamp_words,
+                                        uint32_t *scratch, size_t scratch_words,
+                                        uint64_t *answer, size_t answer_words);
 
 #ifdef __cplusplus
 }

@@ -1,6 +1,7 @@
 /*
- * card FILE [--colour]: shows a sheet image as text in UTF-8, painted in bands of eight rows
- * as a small display would do it. With --colour it is shown in its colours.
+ * card FILE [--colour | --ascii]: shows a sheet image as text in UTF-8, painted in bands of
+ * eight rows as a small display would do it. With --colour it is shown in its colours. With
+ * --ascii the whole sheet is painted by one call, and shown with the characters of ASCII.
  *
  * Exit status: 0 shown; 1 the image is refused; 2 a bad call, a file that cannot be read or is
  * no file of words, no memory, or output that cannot be written.
@@ -16,12 +17,19 @@ enum status { SHOWN = 0, REFUSED = 1, NOT_TRIED = 2 };
 
 enum { BAND_ROWS = 8, WORD_BYTES = 4, MOST_BYTES = PIVOTDAWN_MOST_WORDS * WORD_BYTES };
 
-/* An image, and the buffers that a band of it is painted in. */
+/* How a sheet is shown. */
+enum form {
+    PLAIN,    /* as text, band by band */
+    COLOURED, /* the same in its colours */
+    ASCII     /* from the cells of the whole sheet */
+};
+
+/* An image, and the buffers that a band of it, or all of it, is painted in. */
 struct sheet {
     const char *path;
     uint32_t *image;
     size_t words;
-    int coloured;
+    enum form form;
     size_t plane_words; /* of the cells, and if coloured of the colours and of the stamps */
     uint32_t *cells;
     uint32_t *colours;
@@ -29,7 +37,7 @@ struct sheet {
     size_t scratch_words;
     uint32_t *scratch;
     size_t out_bytes;
-    uint8_t *out; /* the text of a band */
+    uint8_t *out; /* the text of a band, or the line of a row in ASCII */
 };
 
 static int not_tried(const char *path, const char *why)
@@ -53,7 +61,7 @@ static const char *const reasons[] = {
     [PIVOTDAWN_LIST_DISORDER] = "an element's rows are upside down, or it starts above the one before it",
     [PIVOTDAWN_ROW_UNLISTED] = "a node, edge or subgraph shows on a row that it is not listed for",
     [PIVOTDAWN_FEW_RUNS] = "the run capacity is below the number of runs",
-    [PIVOTDAWN_BAND_OUTSIDE] = "the band leaves the sheet",
+    [PIVOTDAWN_BAND_OUTSIDE] = "the band leaves the sheet, or the band height is 0",
     [PIVOTDAWN_SHORT_BUFFER] = "a buffer is too short",
     [PIVOTDAWN_SHORT_OUTPUT] = "the output is too short",
 };
@@ -170,25 +178,42 @@ static int check_image(const struct sheet *sheet)
     return code == PIVOTDAWN_ACCEPTED ? SHOWN : refused(sheet, code, answer[PIVOTDAWN_PLACE]);
 }
 
-/* Only of an image that is accepted. */
+/* How much room the form wants. Only of an image that is accepted. */
+static void measure_buffers(struct sheet *sheet)
+{
+    const uint32_t *image = sheet->image;
+
+    if (sheet->form == ASCII) {
+        sheet->plane_words = pivotdawn_sheet_words(image);
+        sheet->scratch_words = pivotdawn_sheet_scratch_words(image);
+        sheet->out_bytes = (size_t)image[PIVOTDAWN_WIDTH] + 1;
+        return;
+    }
+    sheet->plane_words = pivotdawn_plane_words(image, BAND_ROWS);
+    sheet->scratch_words = pivotdawn_scratch_words(image);
+    sheet->out_bytes = sheet->form == COLOURED ? pivotdawn_coloured_text_bytes(image, BAND_ROWS)
+                                               : pivotdawn_text_bytes(image, BAND_ROWS);
+}
+
 static int lend_buffers(struct sheet *sheet)
 {
-    sheet->plane_words = pivotdawn_plane_words(sheet->image, BAND_ROWS);
-    sheet->scratch_words = pivotdawn_scratch_words(sheet->image);
-    sheet->out_bytes = sheet->coloured ? pivotdawn_coloured_text_bytes(sheet->image, BAND_ROWS)
-                                       : pivotdawn_text_bytes(sheet->image, BAND_ROWS);
+    int coloured = sheet->form == COLOURED;
+
+    measure_buffers(sheet);
     sheet->cells = room_for(sheet->plane_words);
     sheet->scratch = room_for(sheet->scratch_words);
     sheet->out = malloc(sheet->out_bytes);
-    if (sheet->coloured) {
+    if (coloured) {
         sheet->colours = room_for(sheet->plane_words);
         sheet->stamps = room_for(sheet->plane_words);
     }
     if (sheet->cells == NULL || sheet->scratch == NULL || sheet->out == NULL ||
-        (sheet->coloured && (sheet->colours == NULL || sheet->stamps == NULL)))
+        (coloured && (sheet->colours == NULL || sheet->stamps == NULL)))
         return not_tried(sheet->path, "no memory to paint it");
     return SHOWN;
 }
+
+/* ---- band by band, as text ---- */
 
 /* Has a band as text; how many bytes it has goes into `bytes`. */
 static int write_band(const struct sheet *sheet, size_t first, size_t rows, size_t *bytes)
@@ -196,7 +221,7 @@ static int write_band(const struct sheet *sheet, size_t first, size_t rows, size
     uint64_t answer[PIVOTDAWN_ANSWER_WORDS];
     uint32_t code;
 
-    if (sheet->coloured)
+    if (sheet->form == COLOURED)
         code = pivotdawn_paint_text_coloured(sheet->image, sheet->words, first, rows,
                                              sheet->cells, sheet->plane_words,
                                              sheet->colours, sheet->plane_words,
@@ -215,7 +240,7 @@ static int write_band(const struct sheet *sheet, size_t first, size_t rows, size
 }
 
 /* Band after band: joined, their texts are the text of the sheet. */
-static int show_sheet(const struct sheet *sheet)
+static int show_bands(const struct sheet *sheet)
 {
     size_t height = sheet->image[PIVOTDAWN_HEIGHT], first, rows, bytes;
 
@@ -225,12 +250,96 @@ static int show_sheet(const struct sheet *sheet)
             return REFUSED;
         fwrite(sheet->out, 1, bytes, stdout);
     }
-    if (fflush(stdout) != 0 || ferror(stdout))
-        return not_tried("standard output", "cannot be written");
+    return SHOWN;
+}
+
+/* ---- the whole sheet, from its cells ---- */
+
+/* All rows by one call. Eight at a time, or any number: the cells are the same. */
+static int paint_whole(const struct sheet *sheet)
+{
+    uint64_t answer[PIVOTDAWN_ANSWER_WORDS];
+    uint32_t code = pivotdawn_paint_sheet(sheet->image, sheet->words, BAND_ROWS,
+                                          sheet->cells, sheet->plane_words,
+                                          sheet->scratch, sheet->scratch_words,
+                                          answer, PIVOTDAWN_ANSWER_WORDS);
+
+    return code == PIVOTDAWN_ACCEPTED ? SHOWN : refused(sheet, code, answer[PIVOTDAWN_PLACE]);
+}
+
+/* Both columns of a wide character are `?`, so that the row keeps its width. */
+static char ascii_of_text(uint32_t cell)
+{
+    int known = cell != PIVOTDAWN_CONTINUATION && PIVOTDAWN_CODE_POINT(cell) < 0x80;
+
+    return known ? (char)PIVOTDAWN_CODE_POINT(cell) : '?';
+}
+
+static char ascii_of_stroke(uint32_t cell)
+{
+    int upright = PIVOTDAWN_ARM_UP(cell) != PIVOTDAWN_NO_ARM || PIVOTDAWN_ARM_DOWN(cell) != PIVOTDAWN_NO_ARM;
+    int level = PIVOTDAWN_ARM_LEFT(cell) != PIVOTDAWN_NO_ARM || PIVOTDAWN_ARM_RIGHT(cell) != PIVOTDAWN_NO_ARM;
+
+    return upright && level ? '+' : upright ? '|' : '-';
+}
+
+static char ascii_of_marker(uint32_t cell)
+{
+    static const char arrows[] = {
+        [PIVOTDAWN_UP] = '^', [PIVOTDAWN_DOWN] = 'v', [PIVOTDAWN_LEFT] = '<', [PIVOTDAWN_RIGHT] = '>'
+    };
+
+    switch (PIVOTDAWN_MARKER_KIND(cell)) {
+    case PIVOTDAWN_ARROW:
+        return arrows[PIVOTDAWN_MARKER_DIRECTION(cell)];
+    case PIVOTDAWN_SELF_LOOP:
+        return '@';
+    default:
+        return 'o';
+    }
+}
+
+static char ascii_of(uint32_t cell)
+{
+    switch (PIVOTDAWN_TAG(cell)) {
+    case PIVOTDAWN_TEXT:
+        return ascii_of_text(cell);
+    case PIVOTDAWN_STROKE:
+        return ascii_of_stroke(cell);
+    case PIVOTDAWN_MARKER:
+        return ascii_of_marker(cell);
+    default:
+        return ' ';
+    }
+}
+
+/* The cells of all rows stay at hand: a display could show any of them, and again, and paint
+   nothing anew. */
+static int show_whole(const struct sheet *sheet)
+{
+    size_t width = sheet->image[PIVOTDAWN_WIDTH], height = sheet->image[PIVOTDAWN_HEIGHT], x, y;
+
+    if (paint_whole(sheet) != SHOWN)
+        return REFUSED;
+    for (y = 0; y < height; y++) {
+        for (x = 0; x < width; x++)
+            sheet->out[x] = (uint8_t)ascii_of(sheet->cells[y * width + x]);
+        sheet->out[width] = '\n';
+        fwrite(sheet->out, 1, width + 1, stdout);
+    }
     return SHOWN;
 }
 
 /* ---- the program ---- */
+
+static int show_sheet(const struct sheet *sheet)
+{
+    int status = sheet->form == ASCII ? show_whole(sheet) : show_bands(sheet);
+
+    if (status == SHOWN && (fflush(stdout) != 0 || ferror(stdout)))
+        return not_tried("standard output", "cannot be written");
+    return status;
+}
 
 static int card(struct sheet *sheet)
 {
@@ -251,13 +360,24 @@ static int card(struct sheet *sheet)
     return status;
 }
 
+/* The form that is asked for; 0 where there is no such form. */
+static int take_form(const char *asked, enum form *form)
+{
+    if (strcmp(asked, "--colour") == 0)
+        *form = COLOURED;
+    else if (strcmp(asked, "--ascii") == 0)
+        *form = ASCII;
+    else
+        return 0;
+    return 1;
+}
+
 int main(int argc, char **argv)
 {
     struct sheet sheet = {0};
 
-    sheet.coloured = argc == 3 && strcmp(argv[2], "--colour") == 0;
-    if (argc != 2 && !sheet.coloured) {
-        fputs("usage: card FILE [--colour]\n", stderr);
+    if (argc != 2 && !(argc == 3 && take_form(argv[2], &sheet.form))) {
+        fputs("usage: card FILE [--colour | --ascii]\n", stderr);
         return NOT_TRIED;
     }
     sheet.path = argv[1];

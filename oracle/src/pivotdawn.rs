@@ -6,12 +6,15 @@
 //! of stamps where it is coloured, and `8 * run capacity + elements` words of scratch,
 //! all of which numbers stand in the image's header. Too little is refused with code
 //! 12. For a band as text besides: `rows * (4 * width + 1)` bytes of output, or
-//! `rows * (23 * width + 5)` where it is coloured; too little is refused with code 20. A
-//! refusal changes no lent word or byte but the answer.
+//! `rows * (23 * width + 5)` where it is coloured; too little is refused with code 20. For
+//! a whole sheet: `width * height` words of cells, colours and stamps, and
+//! `8 * run capacity + 2 * elements` words of scratch. A refusal changes no lent word or
+//! byte but the answer.
 //!
 //! A code is that of the first rule that is broken. The rules of the image are tried in
 //! the order 1 to 5, 13 (a glyph is a control character), 6 to 10; those of painting, 11
-//! (rows off the sheet) and 12, after them, and 20 last. `include/pivotdawn.h` words each.
+//! (rows off the sheet, or a band height of 0) and 12, after them, and 20 last.
+//! `include/pivotdawn.h` words each.
 //!
 //! Each unsafe block below is sound for the same reasons:
 //!
@@ -98,6 +101,34 @@ mod c {
             answer: *mut u64,
             answer_words: usize,
         ) -> u32;
+
+        pub fn pivotdawn_paint_sheet(
+            image: *const u32,
+            words: usize,
+            band: usize,
+            cells: *mut u32,
+            cell_words: usize,
+            scratch: *mut u32,
+            scratch_words: usize,
+            answer: *mut u64,
+            answer_words: usize,
+        ) -> u32;
+
+        pub fn pivotdawn_paint_sheet_coloured(
+            image: *const u32,
+            words: usize,
+            band: usize,
+            cells: *mut u32,
+            cell_words: usize,
+            colours: *mut u32,
+            colour_words: usize,
+            stamps: *mut u32,
+            stamp_words: usize,
+            scratch: *mut u32,
+            scratch_words: usize,
+            answer: *mut u64,
+            answer_words: usize,
+        ) -> u32;
     }
 }
 
@@ -111,7 +142,7 @@ pub struct Answer {
     pub runs: u64,
 }
 
-/// Painting's answer: code 0 where the band was painted.
+/// Painting's answer: code 0 where the band, or the sheet, was painted.
 #[derive(Clone, Copy, Debug, PartialEq, Eq)]
 pub struct Outcome {
     pub code: u32,
@@ -129,7 +160,7 @@ pub struct Written {
     pub bytes: u64,
 }
 
-/// The buffers of a coloured band.
+/// The buffers of a coloured band, or of a coloured sheet.
 pub struct Planes<'a> {
     pub cells: &'a mut [u32],
     pub colours: &'a mut [u32],
@@ -195,6 +226,23 @@ pub fn paint_text_coloured(
     let code = paint_text_coloured_into(image, first, rows, planes, out, &mut answer);
     let [place, bytes] = answer;
     Written { code, place, bytes }
+}
+
+/// Paints every row of the sheet, plain, `band` rows at a time. The image is checked once. A
+/// band height above the sheet's is one band; 0 is refused with code 11, place 1.
+pub fn paint_sheet(image: &[u32], band: usize, cells: &mut [u32], scratch: &mut [u32]) -> Outcome {
+    let mut place = [0];
+    let code = paint_sheet_into(image, band, cells, scratch, &mut place);
+    let [place] = place;
+    Outcome { code, place }
+}
+
+/// The same in colour.
+pub fn paint_sheet_coloured(image: &[u32], band: usize, planes: Planes<'_>) -> Outcome {
+    let mut place = [0];
+    let code = paint_sheet_coloured_into(image, band, planes, &mut place);
+    let [place] = place;
+    Outcome { code, place }
 }
 
 // ---- As C has them: the code returned, the rest stored as far as there is room ----
@@ -342,6 +390,67 @@ pub fn paint_text_coloured_into(
             scratch.len(),
             out.as_mut_ptr(),
             out.len(),
+            answer.as_mut_ptr(),
+            answer.len(),
+        )
+    }
+}
+
+/// Word 0 of the answer gets the place.
+pub fn paint_sheet_into(
+    image: &[u32],
+    band: usize,
+    cells: &mut [u32],
+    scratch: &mut [u32],
+    answer: &mut [u64],
+) -> u32 {
+    // SAFETY: the four reasons at the head of this file; the image is only read, and
+    // cells, scratch and answer are borrowed mutably, each apart from all others. Any band
+    // height is answered: 0 is refused with code 11.
+    unsafe {
+        c::pivotdawn_paint_sheet(
+            image.as_ptr(),
+            image.len(),
+            band,
+            cells.as_mut_ptr(),
+            cells.len(),
+            scratch.as_mut_ptr(),
+            scratch.len(),
+            answer.as_mut_ptr(),
+            answer.len(),
+        )
+    }
+}
+
+/// Word 0 of the answer gets the place.
+pub fn paint_sheet_coloured_into(
+    image: &[u32],
+    band: usize,
+    planes: Planes<'_>,
+    answer: &mut [u64],
+) -> u32 {
+    let Planes {
+        cells,
+        colours,
+        stamps,
+        scratch,
+    } = planes;
+    // SAFETY: the four reasons at the head of this file; the image is only read, and
+    // the four planes and the answer are borrowed mutably, each apart from all others. Any
+    // band height is answered: 0 is refused with code 11.
+    unsafe {
+        c::pivotdawn_paint_sheet_coloured(
+            image.as_ptr(),
+            image.len(),
+            band,
+            cells.as_mut_ptr(),
+            cells.len(),
+            colours.as_mut_ptr(),
+            colours.len(),
+            stamps.as_mut_ptr(),
+            stamps.len(),
+            scratch.as_mut_ptr(),
+            scratch.len(),
             answer.as_mut_ptr(),
             answer.len(),
         )

@@ -4,10 +4,12 @@ use mathlib.Core.List.{List}
 use mathlib.Core.Path.{_≡_, sym, ap, _∙_}
 use Rattle.refusals.specs.Rules.{checked}
 use Rattle.picture.specs.Painted.{painted, paintedColoured}
+use Rattle.paint.specs.declared.Outcome.{Outcome}
 use Rattle.paint.specs.Outcome.{outcomeOf}
 use Rattle.painttext.specs.declared.Written.{Written}
 use Rattle.painttext.proofs.Theorems.{text-one-answer, coloured-text-one-answer}
-use Rattle.pivotdawn.specs.Told.{told, toldPlace, toldWritten, TextTold, TextToldColoured}
+use Rattle.paintsheet.proofs.Theorems.{sheet-one-answer, coloured-sheet-one-answer}
+use Rattle.pivotdawn.specs.Told.{told, toldPlace, toldWritten, TextTold, TextToldColoured, SheetTold, SheetToldColoured}
 
 pub one-answer :
     (image words : List ℕ) (r s : ℕ) (a b : List ℕ) →
@@ -57,8 +59,18 @@ module _ (image : List ℕ) (first rows : ℕ) (cells colours stamps scratch wor
   )
 
 -- what is told of one answer is one
-told-once : (v w : Written) (r s : ℕ) (words a b : List ℕ) → v ≡ w → r ≡ v .code → s ≡ w .code → a ≡ toldWritten v words → b ≡ toldWritten w words → (r ≡ s) × (a ≡ b)
-told-once v w r s words a b e p q t u = (p ∙ ap (λ (x : Written). x .code) e ∙ sym q, t ∙ ap (λ (x : Written). toldWritten x words) e ∙ sym u)
+told-once :
+    {A : Type 0} (code : A → ℕ) (tell : A → List ℕ) (v w : A) (r s : ℕ) (a b : List ℕ) →
+    v ≡ w → r ≡ code v → s ≡ code w → a ≡ tell v → b ≡ tell w → (r ≡ s) × (a ≡ b)
+told-once code tell v w r s a b e p q t u = (p ∙ ap code e ∙ sym q, t ∙ ap tell e ∙ sym u)
+
+-- of a band as text
+written-once : (v w : Written) (r s : ℕ) (words a b : List ℕ) → v ≡ w → r ≡ v .code → s ≡ w .code → a ≡ toldWritten v words → b ≡ toldWritten w words → (r ≡ s) × (a ≡ b)
+written-once v w r s words = told-once (λ (x : Written). x .code) (λ (x : Written). toldWritten x words) v w r s
+
+-- of a sheet
+place-once : (v w : Outcome) (r s : ℕ) (words a b : List ℕ) → v ≡ w → r ≡ v .code → s ≡ w .code → a ≡ toldPlace v words → b ≡ toldPlace w words → (r ≡ s) × (a ≡ b)
+place-once v w r s words = told-once (λ (x : Outcome). x .code) (λ (x : Outcome). toldPlace x words) v w r s
 
 pub text-told-one-answer :
     (image : List ℕ) (first rows : ℕ) (cells scratch out words : List ℕ) (r s : ℕ) (c d t u o p a b : List ℕ) →
@@ -66,7 +78,7 @@ pub text-told-one-answer :
     (r ≡ s) × (c ≡ d) × (t ≡ u) × (o ≡ p) × (a ≡ b)
 text-told-one-answer image first rows cells scratch out words r s c d t u o p a b one other =
     let same = text-one-answer image first rows cells scratch out (one .written) (other .written) c d t u o p (one .painted) (other .painted) in
-    let told' = told-once (one .written) (other .written) r s words a b (same .0) (one .answered) (other .answered) (one .inWords) (other .inWords) in
+    let told' = written-once (one .written) (other .written) r s words a b (same .0) (one .answered) (other .answered) (one .inWords) (other .inWords) in
     (told' .0, same .1, same .2, same .3, told' .1)
 
 pub coloured-text-told-one-answer :
@@ -78,5 +90,26 @@ coloured-text-told-one-answer image first rows cells colours stamps scratch out 
     let same =
     coloured-text-one-answer image first rows cells colours stamps scratch out (one .written) (other .written) c d k l m n t u o p (one .painted) (other .painted)
     in
-    let told' = told-once (one .written) (other .written) r s words a b (same .0) (one .answered) (other .answered) (one .inWords) (other .inWords) in
+    let told' = written-once (one .written) (other .written) r s words a b (same .0) (one .answered) (other .answered) (one .inWords) (other .inWords) in
     (told' .0, same .1, same .2, same .3, same .4, same .5, told' .1)
+
+pub sheet-told-one-answer :
+    (image : List ℕ) (band : ℕ) (cells scratch words : List ℕ) (r s : ℕ) (c d t u a b : List ℕ) →
+    SheetTold image band cells scratch words r c t a → SheetTold image band cells scratch words s d u b →
+    (r ≡ s) × (c ≡ d) × (t ≡ u) × (a ≡ b)
+sheet-told-one-answer image band cells scratch words r s c d t u a b one other =
+    let same = sheet-one-answer image band cells scratch (one .outcome) (other .outcome) c d t u (one .painted) (other .painted) in
+    let told' = place-once (one .outcome) (other .outcome) r s words a b (same .0) (one .answered) (other .answered) (one .inWords) (other .inWords) in
+    (told' .0, same .1, same .2, told' .1)
+
+pub coloured-sheet-told-one-answer :
+    (image : List ℕ) (band : ℕ) (cells colours stamps scratch words : List ℕ) (r s : ℕ) (c d k l m n t u a b : List ℕ) →
+    SheetToldColoured image band cells colours stamps scratch words r c k m t a →
+    SheetToldColoured image band cells colours stamps scratch words s d l n u b →
+    (r ≡ s) × (c ≡ d) × (k ≡ l) × (m ≡ n) × (t ≡ u) × (a ≡ b)
+coloured-sheet-told-one-answer image band cells colours stamps scratch words r s c d k l m n t u a b one other =
+    let same =
+    coloured-sheet-one-answer image band cells colours stamps scratch (one .outcome) (other .outcome) c d k l m n t u (one .painted) (other .painted)
+    in
+    let told' = place-once (one .outcome) (other .outcome) r s words a b (same .0) (one .answered) (other .answered) (one .inWords) (other .inWords) in
+    (told' .0, same .1, same .2, same .3, same .4, told' .1)

@@ -7,6 +7,7 @@ use Rattle.refusals.specs.declared.Answer.{Answer}
 use Rattle.paint.specs.declared.Outcome.{Outcome}
 use Rattle.painttext.specs.declared.Written.{Written}
 use Rattle.painttext.specs.PaintedText.{TextPainted, TextPaintedColoured}
+use Rattle.paintsheet.specs.PaintedSheet.{SheetPainted, SheetPaintedColoured}
 
 -- of check: the place in word 0 and the run count in word 1, each where there is such a word; every other word as it was
 abbrev pub told : Answer → List ℕ → List ℕ
@@ -38,3 +39,20 @@ pub record TextToldColoured
   pub painted : TextPaintedColoured image first rows cells colours stamps scratch out written cells' colours' stamps' scratch' out'
   pub answered : code ≡ written .code
   pub inWords : words' ≡ toldWritten written words
+
+-- What `pivotdawn_paint_sheet` promises: as `paint_sheet`, with the answer told as a code and a word.
+pub record SheetTold (image : List ℕ) (band : ℕ) (cells scratch words : List ℕ) (code : ℕ) (cells' scratch' words' : List ℕ) : Type 0 where
+  -- what `paint_sheet` answers
+  pub outcome : Outcome
+  pub painted : SheetPainted image band cells scratch outcome cells' scratch'
+  pub answered : code ≡ outcome .code
+  pub inWords : words' ≡ toldPlace outcome words
+
+-- What `pivotdawn_paint_sheet_coloured` promises.
+pub record SheetToldColoured
+    (image : List ℕ) (band : ℕ) (cells colours stamps scratch words : List ℕ) (code : ℕ) (cells' colours' stamps' scratch' words' : List ℕ) : Type 0 where
+  -- what `paint_sheet_coloured` answers
+  pub outcome : Outcome
+  pub painted : SheetPaintedColoured image band cells colours stamps scratch outcome cells' colours' stamps' scratch'
+  pub answered : code ≡ outcome .code
+  pub inWords : words' ≡ toldPlace outcome words

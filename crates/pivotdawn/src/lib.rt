@@ -1,10 +1,10 @@
-// Pivotdawn for C and Rust to link: its five public calls, with numbers and slices alone. In C a slice is a pointer and a length; `include/pivotdawn.h` declares all five.
+// Pivotdawn for C and Rust to link: its seven public calls, with numbers and slices alone. In C a slice is a pointer and a length; `include/pivotdawn.h` declares all seven.
 ghost use mathlib.Core.Path.{_≡_};
 ghost use lib.ListN.{set};
 ghost use Rattle.refusals.specs.Rules.{checked};
 ghost use Rattle.picture.specs.Painted.{painted, paintedColoured};
 ghost use Rattle.paint.specs.Outcome.{outcomeOf};
-ghost use Rattle.pivotdawn.specs.Told.{told, toldPlace, TextTold, TextToldColoured};
+ghost use Rattle.pivotdawn.specs.Told.{told, toldPlace, TextTold, TextToldColoured, SheetTold, SheetToldColoured};
 
 // Stores a number at a place, where there is one.
 fn store(words: &mut [u64], place: usize, value: usize)
@@ -118,4 +118,38 @@ pub extern "C" fn pivotdawn_paint_text_coloured(
     store(answer, 0, coloured_text.place);
     store(answer, 1, coloured_text.bytes);
     coloured_text.code
+}
+
+// `paint_sheet`: answers the code of a whole plain sheet; its place goes into word 0 of `answer`.
+#[no_mangle]
+pub extern "C" fn pivotdawn_paint_sheet(
+    image: &[u32],
+    band: usize,
+    cells: &mut [u32],
+    scratch: &mut [u32],
+    answer: &mut [u64],
+) -> u32
+    ensures { λ r. ⌜ SheetTold (now (image .entry)) band (now (cells .entry)) (now (scratch .entry)) (now (answer .entry)) r (now (cells .exit)) (now (scratch .exit)) (now (answer .exit)) ⌝ }
+{
+    let sheet = paintsheet::paint_sheet(image, band, cells, scratch);
+    store(answer, 0, sheet.place);
+    sheet.code
+}
+
+// `paint_sheet_coloured`: answers the code of a whole coloured sheet; its place goes into word 0 of `answer`.
+#[no_mangle]
+pub extern "C" fn pivotdawn_paint_sheet_coloured(
+    image: &[u32],
+    band: usize,
+    cells: &mut [u32],
+    colours: &mut [u32],
+    stamps: &mut [u32],
+    scratch: &mut [u32],
+    answer: &mut [u64],
+) -> u32
+    ensures { λ r. ⌜ SheetToldColoured (now (image .entry)) band (now (cells .entry)) (now (colours .entry)) (now (stamps .entry)) (now (scratch .entry)) (now (answer .entry)) r (now (cells .exit)) (now (colours .exit)) (now (stamps .exit)) (now (scratch .exit)) (now (answer .exit)) ⌝ }
+{
+    let in_colour = paintsheet::paint_sheet_coloured(image, band, cells, colours, stamps, scratch);
+    store(answer, 0, in_colour.place);
+    in_colour.code
 }
