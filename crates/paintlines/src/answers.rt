@@ -70,6 +70,30 @@ fn write_band(
     }
 }
 
+// Paints the whole sheet, and says code and place.
+fn paint_sheet(
+    r: Request,
+    image: &[u32],
+    cells: &mut [u32],
+    colours: &mut [u32],
+    stamps: &mut [u32],
+    scratch: &mut [u32],
+) {
+    let band = r.rows;
+    if r.coloured {
+        say::outcome(paintsheet::paint_sheet_coloured(
+            image,
+            band,
+            cells,
+            colours,
+            stamps,
+            scratch,
+        ));
+    } else {
+        say::outcome(paintsheet::paint_sheet(image, band, cells, scratch));
+    }
+}
+
 // A line for each buffer that is lent.
 fn say_lent(
     r: Request,
@@ -103,9 +127,13 @@ fn call(
 ) {
     if r.text {
         write_band(r, image, cells, colours, stamps, scratch, out);
-    } else {
-        paint_band(r, image, cells, colours, stamps, scratch);
+        return;
     }
+    if r.sheet {
+        paint_sheet(r, image, cells, colours, stamps, scratch);
+        return;
+    }
+    paint_band(r, image, cells, colours, stamps, scratch);
 }
 
 pub fn answer_in(

@@ -2,20 +2,20 @@
 //
 // A request is twelve words and the words of an image:
 // 0: how many words the image has, at most 131,072
-// 1: flags, bit 0 for coloured, bit 1 for the short form and bit 2 for text
-// 2 and 3: the first row, its high word and its low word
-// 4 and 5: how many rows, high word and low word
+// 1: flags, bit 0 for coloured, bit 1 for the short form, bit 2 for text and bit 3 for the whole sheet in one call, which is no text
+// 2 and 3: the first row, its high word and its low word; 0 for the whole sheet
+// 4 and 5: how many rows, high word and low word; for the whole sheet the band height
 // 6 to 9: how many words are lent of cells, colours, stamps and scratch, each at most 147,456
 // 10: how many bytes are lent of the output, at most 1,048,576; 0 where no text is asked for
 // 11: 0
-// A plain request is lent cells and scratch alone, a request for text the output besides. Before each request word i of lent buffer b (1 cells, 2 colours, 3 stamps, 4 scratch) holds
-// 0x50000000 + 0x1000000 b + i, and byte i of the output (0x50 + i) mod 256.
+// A plain request is lent cells and scratch alone, a request for text the output besides. So a whole sheet can be had that has at most 147,456 cells; a larger one is refused for want of room.
+// Before each request word i of lent buffer b (1 cells, 2 colours, 3 stamps, 4 scratch) holds 0x50000000 + 0x1000000 b + i, and byte i of the output (0x50 + i) mod 256.
 //
 // The answer is a line with code and place, for text also the number of bytes written, and a line for each lent buffer: its name, and its words as eight upper-case hex digits each, single-spaced;
 // or in the short form its name and one checksum, also as hex digits: h begins as 0 and becomes (31 h + w + 1) mod 4294967291 for each word w. The output is the last of them, named `out`: its
 // bytes are two digits each, and its checksum goes over bytes.
-// A request over a limit, or with another flag, or with a word 11 that is not 0, or with bytes of output where no text is asked for, and a stream that breaks off inside a request, end the answers
-// with `unread`.
+// A request over a limit, or with another flag, or for the whole sheet as text or from another row than 0, or with a word 11 that is not 0, or with bytes of output where no text is asked for, and a
+// stream that breaks off inside a request, end the answers with `unread`.
 ghost use Prim.Native.Nat.{_*_, _≤_};
 ghost use lib.ListN.{length};
 ghost use Rattle.paintlines.specs.Request.{HasRoom, Fitting, Planes, Buffers};
@@ -37,8 +37,8 @@ const MOST_OUTPUT: usize = 1048576;
 // Words of a request before the image.
 const HEAD_WORDS: usize = 12;
 
-// All flags: coloured, short form and text.
-const ALL_FLAGS: u32 = 7;
+// The greatest word of flags: the whole sheet, coloured and in the short form. Beyond it a sheet would be asked for as text, or another flag be set.
+const MOST_FLAGS: u32 = 11;
 
 // What is asked of painting.
 struct Request {
@@ -50,9 +50,11 @@ struct Request {
     short: bool,
     // whether the band is written as text too
     text: bool,
+    // whether all rows are painted in one call
+    sheet: bool,
     // first row of the band
     first: usize,
-    // rows of the band
+    // rows of the band, or the band height of the sheet
     rows: usize,
     // words lent of cells
     cells: usize,
@@ -89,6 +91,7 @@ fn request_of(head: &[u32; HEAD_WORDS]) -> Request {
         coloured: flags % 2 == 1,
         short: flags / 2 % 2 == 1,
         text: flags / 4 % 2 == 1,
+        sheet: flags / 8 % 2 == 1,
         first: long(head[2], head[3]),
         rows: long(head[4], head[5]),
         cells: ground::number(head[6]),
@@ -137,17 +140,29 @@ fn output_wanted(r: Request) -> Next
     within_limits(r)
 }
 
-// What the words before an image ask. Where another flag is set, or the last word is not 0, it is not to be answered.
+// A whole sheet begins at row 0.
+fn rows_wanted(r: Request) -> Next
+    ensures { λ next. ⌜ Fitting next ⌝ }
+{
+    if r.sheet {
+        if r.first != 0 {
+            return Next::Unread;
+        }
+    }
+    output_wanted(r)
+}
+
+// What the words before an image ask. Where flags are set that do not go together, or others, or the last word is not 0, it is not to be answered.
 fn asked(head: &[u32; HEAD_WORDS]) -> Next
     ensures { λ next. ⌜ Fitting next ⌝ }
 {
-    if ALL_FLAGS < head[1] {
+    if MOST_FLAGS < head[1] {
         return Next::Unread;
     }
     if head[11] != 0 {
         return Next::Unread;
     }
-    output_wanted(request_of(head))
+    rows_wanted(request_of(head))
 }
 
 fn next_request() -> Next
