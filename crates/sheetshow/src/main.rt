@@ -1,27 +1,39 @@
 // Shows one sheet. An image is read from standard input, and its rows are written as text in UTF-8; with the argument --colour, with the sequences of ECMA-48 that set its
 // colours. What the check refuses is said with code and place; an input that is longer than an image may be, ends inside a word or cannot be read, as `unread`. With any other
-// argument nothing is read, and the way to call the program is said.
+// argument nothing is read, and the way to call the program is said. A sheet is painted whole, by one call, where its cells have room, else in bands.
+ghost use mathlib.Core.Path.{_≡_};
+ghost use Prim.Native.Nat.{_+_, _*_, _≤_};
+ghost use lib.ListN.{length};
+ghost use Rattle.layout.specs.Layout.{maxWidth};
+ghost use Rattle.picture.specs.Picture as picture;
+ghost use Rattle.refusals.specs.Accepted.{Keeps};
+ghost use Rattle.sheetshow.specs.Room.{bandRows, bandCells, bandBytes, Planes, Answered};
 use image_input::Image;
 use image_input::MOST_WORDS;
 use layout::HEADER_HEIGHT;
+use layout::HEADER_WIDTH;
 use layout::MAX_ELEMENTS;
 use layout::MAX_RUNS;
 use layout::MAX_WIDTH;
 use layout::word;
 use libc::STDOUT_FILENO;
-use painttext::Written;
+use paint::Outcome;
 use sheettext::part;
 
 mod say;
 
-// "scratch 8 × run capacity + elements", both at their limit.
-const SCRATCH_WORDS: usize = 8 * MAX_RUNS as usize + MAX_ELEMENTS as usize;
+// "scratch twice 01's element part besides its run part", both at their limit: it is short for no sheet.
+const SCRATCH_WORDS: usize = 8 * MAX_RUNS as usize + 2 * MAX_ELEMENTS as usize;
 
-// How many rows are written at a time.
+// How many rows are written at a time; and painted, where the sheet is not painted whole.
 const BAND_ROWS: usize = 32;
 
-// Cells of the widest band.
+// Cells of the widest band. A sheet of no more cells is painted whole.
 const BAND_CELLS: usize = BAND_ROWS * MAX_WIDTH as usize;
+
+// The band height of a sheet that is painted whole: the picture is the same for any. Lower bands are selected more often; of higher ones, a long line that goes down
+// all rows touches so many cells that they do not stay near the processor. Measured, this one is within 4 in a hundred of the quickest.
+const SWEPT_ROWS: usize = 128;
 
 // The room of the widest band as coloured text.
 const BAND_BYTES: usize = BAND_ROWS * (23 * MAX_WIDTH as usize + 5);
@@ -51,8 +63,69 @@ fn form_asked() -> Form {
     }
 }
 
-// Writes so many rows into the output, from a first one on.
-fn write_band(
+// Writes a text to standard output; and whether that took it.
+fn put_out(text: &[u8]) -> bool {
+    let taken = io::write_all(STDOUT_FILENO, text);
+    if !taken {
+        say::not_written();
+    }
+    taken
+}
+
+// The colours that the form shows. Without any, the text is the plain one.
+fn shown_colours(colours: &[u32], coloured: bool) -> &[u32] {
+    if coloured { colours } else { &colours[..0] }
+}
+
+// Shows so many painted rows, which the cells begin with; and whether the output took them.
+fn show_rows(cells: &[u32], colours: &[u32], width: usize, rows: usize, out: &mut [u8]) -> bool
+    requires { ⌜ (width * rows ≤ length (now cells)) × (width ≤ maxWidth) × (rows ≤ bandRows) × (length (now out) ≡ bandBytes) ⌝ }
+{
+    let bytes = rowtext::write_band(cells, colours, width, rows, out);
+    put_out(part(out, 0, bytes))
+}
+
+// Shows so many rows of a sheet that is painted whole, from a first one on; and whether the output took them.
+fn show_part(
+    cells: &[u32],
+    colours: &[u32],
+    width: usize,
+    first: usize,
+    rows: usize,
+    out: &mut [u8],
+) -> bool
+    requires { ⌜ (width * (first + rows) ≤ length (now cells)) × (width ≤ maxWidth) × (rows ≤ bandRows) × (length (now out) ≡ bandBytes) ⌝ }
+{
+    let start = width * first;
+    let from = ground::min(start, colours.len());
+    show_rows(&cells[start..], &colours[from..], width, rows, out)
+}
+
+// All rows of a sheet that is painted whole, a part after the other. Where the output takes no more, the rest is left.
+fn show_parts(cells: &[u32], colours: &[u32], width: usize, height: usize, out: &mut [u8])
+    requires { ⌜ (width * height ≤ length (now cells)) × (width ≤ maxWidth) × (length (now out) ≡ bandBytes) ⌝ }
+{
+    let mut first: usize = 0;
+    while first < height {
+        let rows = ground::min(BAND_ROWS, height - first);
+        if !show_part(cells, colours, width, first, rows, out) {
+            return;
+        }
+        first += rows;
+    }
+}
+
+// Shows a sheet that is painted whole.
+fn show_whole(image: &[u32], coloured: bool, cells: &[u32], colours: &[u32], out: &mut [u8])
+    requires { ⌜ (picture.width (now image) ≤ maxWidth) × (picture.width (now image) * picture.height (now image) ≤ length (now cells)) × (length (now out) ≡ bandBytes) ⌝ }
+{
+    let width = ground::number(word(image, HEADER_WIDTH));
+    let height = ground::number(word(image, HEADER_HEIGHT));
+    show_parts(cells, shown_colours(colours, coloured), width, height, out);
+}
+
+// Paints so many rows of an accepted image from a first one on, in the planes that the form shows. They have room for the widest band: nothing is refused.
+fn paint_rows(
     image: &[u32],
     first: usize,
     rows: usize,
@@ -61,16 +134,32 @@ fn write_band(
     colours: &mut [u32],
     stamps: &mut [u32],
     scratch: &mut [u32],
-    out: &mut [u8],
-) -> Written {
+)
+    requires { ⌜ Keeps (now image) × (first + rows ≤ picture.height (now image)) × (rows ≤ bandRows) × Planes (now cells) (now colours) (now stamps) (now scratch) ⌝ }
+{
     if coloured {
-        painttext::paint_text_coloured(image, first, rows, cells, colours, stamps, scratch, out)
+        paint::accepted::paint_planes(image, first, rows, cells, colours, stamps, scratch);
     } else {
-        painttext::paint_text(image, first, rows, cells, scratch, out)
+        paint::accepted::paint_plain(image, first, rows, cells, scratch);
     }
 }
 
-// Shows so many rows, from a first one on; and whether the output took them.
+// Shows so many rows of a band that was painted; and whether the output took them.
+fn show_painted(
+    image: &[u32],
+    rows: usize,
+    coloured: bool,
+    cells: &[u32],
+    colours: &[u32],
+    out: &mut [u8],
+) -> bool
+    requires { ⌜ Keeps (now image) × (rows ≤ bandRows) × (length (now cells) ≡ bandCells) × (length (now out) ≡ bandBytes) ⌝ }
+{
+    let width = ground::number(word(image, HEADER_WIDTH));
+    show_rows(cells, shown_colours(colours, coloured), width, rows, out)
+}
+
+// Paints so many rows of an accepted image from a first one on, and shows them; and whether the output took them.
 fn show_band(
     image: &[u32],
     first: usize,
@@ -81,8 +170,10 @@ fn show_band(
     stamps: &mut [u32],
     scratch: &mut [u32],
     out: &mut [u8],
-) -> bool {
-    let written = write_band(
+) -> bool
+    requires { ⌜ Keeps (now image) × (first + rows ≤ picture.height (now image)) × (rows ≤ bandRows) × Planes (now cells) (now colours) (now stamps) (now scratch) × (length (now out) ≡ bandBytes) ⌝ }
+{
+    paint_rows(
         image,
         first,
         rows,
@@ -91,26 +182,23 @@ fn show_band(
         colours,
         stamps,
         scratch,
-        out,
     );
-    let taken = io::write_all(STDOUT_FILENO, part(out, 0, written.bytes));
-    if !taken {
-        say::not_written();
-    }
-    taken
+    show_painted(image, rows, coloured, cells, colours, out)
 }
 
-// All rows, band after band: the buffers have room for the widest one. Where the output takes no more, the rest is left.
-fn show_rows(
+// Shows an accepted image, band after band. Where the output takes no more, the rest is left.
+fn show_bands(
     image: &[u32],
-    height: usize,
     coloured: bool,
     cells: &mut [u32],
     colours: &mut [u32],
     stamps: &mut [u32],
     scratch: &mut [u32],
     out: &mut [u8],
-) {
+)
+    requires { ⌜ Keeps (now image) × Planes (now cells) (now colours) (now stamps) (now scratch) × (length (now out) ≡ bandBytes) ⌝ }
+{
+    let height = ground::number(word(image, HEADER_HEIGHT));
     let mut first: usize = 0;
     while first < height {
         let rows = ground::min(BAND_ROWS, height - first);
@@ -131,7 +219,25 @@ fn show_rows(
     }
 }
 
-// Shows an image, or says that it is refused: a band of no rows is refused where the image is, and wants no room but scratch.
+// Paints all rows, in the planes that the form shows.
+fn paint_whole(
+    image: &[u32],
+    coloured: bool,
+    cells: &mut [u32],
+    colours: &mut [u32],
+    stamps: &mut [u32],
+    scratch: &mut [u32],
+) -> Outcome
+    ensures { λ r. ⌜ Answered (now (image .entry)) (now (cells .entry)) r ⌝ }
+{
+    if coloured {
+        paintsheet::paint_sheet_coloured(image, SWEPT_ROWS, cells, colours, stamps, scratch)
+    } else {
+        paintsheet::paint_sheet(image, SWEPT_ROWS, cells, scratch)
+    }
+}
+
+// Shows an image, or says that it is refused. What is refused for lack of room is accepted, and bands have room.
 fn show_image(
     image: &[u32],
     coloured: bool,
@@ -140,23 +246,17 @@ fn show_image(
     stamps: &mut [u32],
     scratch: &mut [u32],
     out: &mut [u8],
-) {
-    let tried = write_band(image, 0, 0, coloured, cells, colours, stamps, scratch, out);
-    if tried.code != 0 {
-        say::refused(tried.code, tried.place);
-        return;
+)
+    requires { ⌜ Planes (now cells) (now colours) (now stamps) (now scratch) × (length (now out) ≡ bandBytes) ⌝ }
+{
+    let painted = paint_whole(image, coloured, cells, colours, stamps, scratch);
+    if painted.code == 0 {
+        show_whole(image, coloured, cells, colours, out);
+    } else if painted.code == lending::TOO_LITTLE_ROOM {
+        show_bands(image, coloured, cells, colours, stamps, scratch, out);
+    } else {
+        say::refused(painted.code, painted.place);
     }
-    let height = ground::number(word(image, HEADER_HEIGHT));
-    show_rows(
-        image,
-        height,
-        coloured,
-        cells,
-        colours,
-        stamps,
-        scratch,
-        out,
-    );
 }
 
 fn show_input(
@@ -168,7 +268,9 @@ fn show_input(
     stamps: &mut [u32],
     scratch: &mut [u32],
     out: &mut [u8],
-) {
+)
+    requires { ⌜ Planes (now cells) (now colours) (now stamps) (now scratch) × (length (now out) ≡ bandBytes) ⌝ }
+{
     let came = image_input::read_image(bytes, words);
     let Image::Words(count) = came else {
         say::unread();

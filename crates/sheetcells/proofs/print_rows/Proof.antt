@@ -22,7 +22,7 @@ print-rows-spec =
     (λ c. search needs)
     (λ c. search needs)
     (λ c κs. search needs)
-    (λ c κs. search needs)
+    (λ c κs. ((search needs, search needs, search needs, search needs), (search needs, search needs)))
     (λ c. search needs)
     (λ c. search needs)
     (λ c. search needs)

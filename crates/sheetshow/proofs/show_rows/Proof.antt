@@ -1,46 +1,15 @@
--- `show_rows` ends: the measure is how many rows are left. The invariant: the lent buffers keep their lengths.
+-- `show_rows` writes a text that has room in the output.
 use borrow.Author.Needs.{needs}
-use Prim.Native.Nat.{_-_, _≤_}
-use mathlib.Core.Path.{_≡_}
-use lib.ListN.{length}
+use Rattle.sheetshow.proofs.Laws.{text-fits}
 use Rattle.sheetshow.proofs.show_rows.Statement.{statement}
 use Rattle.sheetshow.proofs.show_rows.Tie as tie
-
-abbrev Inv-loop : tie.InvT-loop
-Inv-loop image height coloured cells₀ colours₀ stamps₀ scratch₀ out₀ first₀ cells colours stamps scratch out first =
-    (first ≤ height)
-    × (length cells ≡ length cells₀)
-    × (length colours ≡ length colours₀)
-    × (length stamps ≡ length stamps₀)
-    × (length scratch ≡ length scratch₀)
-    × (length out ≡ length out₀)
-
-abbrev μ-loop : tie.MeasureT-loop
-μ-loop image height coloured cells₀ colours₀ stamps₀ scratch₀ out₀ first₀ cells colours stamps scratch out first =
-    height - first
 
 pub show-rows-spec : {M : Type 1} → statement M
 show-rows-spec =
     tie.close
     (tie.spec
-    Inv-loop
-    μ-loop
-    (λ c. search needs)
-    (λ c. search needs)
+    (λ c κs. (search needs, search (text-fits, needs)))
     (λ c κs. search needs)
     (λ c κs. search needs)
-    (λ c. search needs)
-    (λ c. search needs)
-    (λ c. search needs)
-    (λ c. search needs)
-    (λ c. search needs)
-    (λ c. search needs)
-    (λ c. search needs)
-    (λ c. search needs)
-    (λ c. search needs)
-    (λ c. search needs)
-    (λ c. search needs)
-    (λ c. search needs)
-    (λ c. search needs)
     (λ c. search needs)
     (λ c. search needs))

@@ -1,0 +1,2 @@
+-- The sizes of what is written at a time.
+pub mod Room
