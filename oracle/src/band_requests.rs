@@ -1,10 +1,15 @@
 //! Which bands of an image painting is asked for, as cells and as text: sheets cut into bands
-//! of several heights, bands that leave the sheet, buffers and outputs that are short. The
-//! requests follow from the image and a seed alone, whoever is asked them.
+//! of several heights, bands that leave the sheet, buffers and outputs that are short; and whole
+//! sheets in one call. The requests follow from the image and a seed alone, whoever is asked
+//! them.
+
+mod sheets;
 
 use crate::dice::Dice;
 use crate::generate::damage;
-use crate::requests::{Request, Subject, SCRATCH};
+use crate::requests::{Request, Rows, Subject, SCRATCH};
+#[cfg(product)]
+pub use sheets::SHEET_WAYS;
 use std::collections::BTreeSet;
 use std::rc::Rc;
 
@@ -92,12 +97,15 @@ impl Asking {
         (first, rows): (u64, u64),
         lent: [usize; 4],
     ) {
+        self.ask_for(how, coloured, Rows::Band { first, rows }, lent);
+    }
+
+    fn ask_for(&mut self, how: &'static str, coloured: bool, rows: Rows, lent: [usize; 4]) {
         let request = Request {
             subject: Rc::clone(&self.subject),
+            rows,
             coloured,
             output: None,
-            first,
-            rows,
             lent,
         };
         self.requests.push((how, request));
@@ -376,6 +384,7 @@ impl Asking {
             {
                 self.ask_cutting(WHOLE, Manner { coloured, as_text });
             }
+            self.ask_sheets();
         }
         self.ask_for_no_row();
     }
@@ -392,6 +401,7 @@ impl Asking {
                 self.ask_text("asked for no row", coloured, band, lent, output);
             }
         }
+        self.ask_sheets_with_little();
     }
 
     /// How often the image is to be damaged: once, twice or three times.

@@ -1,12 +1,13 @@
 //! `bench`: the product beside the original on the same sheets, as Markdown tables: the
-//! check alone, the painting alone, the public call, which does both, and the one that writes
-//! the band as text too. And how the cost of the check and of the painting grows, as tables
-//! and sheets double.
+//! check alone, the painting alone, the public call, which does both, the one that writes
+//! the band as text too, and the one for a whole sheet. And how the cost of the check, of the
+//! painting and of the call for a whole sheet grows, as tables and sheets double.
 
 mod clock;
 mod counts;
 mod growth;
 mod product;
+mod sheet_table;
 
 use crate::engine::cell::Cell;
 use crate::image::Image;
@@ -35,12 +36,6 @@ const ALL_ROWS: usize = usize::MAX;
 /// The band heights: a row, the rows of a band on the handheld, and the whole sheet.
 const BANDS: [usize; 3] = [1, 8, ALL_ROWS];
 
-/// The original goes over all 8,192 legs of this sheet for each of 4,200 bands of one
-/// row: it would take minutes.
-fn is_left_out(sheet: &Sheet, band: usize) -> bool {
-    sheet.name == "short-legs" && band == 1
-}
-
 // ---- The sides -----------------------------------------------------------
 
 /// How a sheet is painted: in colour or plain, in bands of how many rows.
@@ -61,14 +56,25 @@ enum Side {
     Public(Manner),
     /// The one that writes each band as text too.
     Text(Manner),
+    /// The product's public call for the whole sheet, which checks once.
+    Sheet(Manner),
     /// The original's painting of all bands.
     Original(Manner),
+    /// The same, and no band is left out where instructions are counted: beside the call for
+    /// the whole sheet, which can leave none out.
+    OriginalSheet(Manner),
 }
 
 impl Side {
-    /// All that are measured in one manner.
-    fn of(manner: Manner) -> [Side; 4] {
-        let kinds = [Side::Painting, Side::Public, Side::Text, Side::Original];
+    /// All that are timed in one manner.
+    fn of(manner: Manner) -> [Side; 5] {
+        let kinds = [
+            Side::Painting,
+            Side::Public,
+            Side::Text,
+            Side::Sheet,
+            Side::Original,
+        ];
         kinds.map(|kind| kind(manner))
     }
 
@@ -79,17 +85,17 @@ impl Side {
             Side::Painting(manner) => format!("painting-{}", manner.name()),
             Side::Public(manner) => format!("public-{}", manner.name()),
             Side::Text(manner) => format!("text-{}", manner.name()),
+            Side::Sheet(manner) => format!("sheet-{}", manner.name()),
             Side::Original(manner) => format!("original-{}", manner.name()),
+            Side::OriginalSheet(manner) => format!("original-sheet-{}", manner.name()),
         }
     }
 
     fn by_name(name: &str) -> Option<Side> {
         let mut sides = vec![Side::Check];
-        for coloured in [false, true] {
-            for band in BANDS {
-                let manner = Manner { coloured, band };
-                sides.extend(Side::of(manner));
-            }
+        for manner in manners() {
+            sides.extend(Side::of(manner));
+            sides.push(Side::OriginalSheet(manner));
         }
         sides.into_iter().find(|side| side.name() == name)
     }
@@ -110,9 +116,13 @@ impl Side {
                 let bands = bands(manner.bands(words));
                 product::work(words, manner, product::Call::Text, bands)
             }
+            Side::Sheet(manner) => product::sheet_work(words, manner),
             Side::Original(manner) => {
                 let bands = bands(manner.bands(words));
                 Box::new(original_work(planned, manner, bands))
+            }
+            Side::OriginalSheet(manner) => {
+                Box::new(original_work(planned, manner, manner.bands(words)))
             }
         }
     }
@@ -231,6 +241,9 @@ pub fn command(options: &[String]) -> io::Result<ExitCode> {
     for coloured in [false, true] {
         write_text(&measured, coloured)?;
     }
+    for coloured in [false, true] {
+        sheet_table::write(&measured, coloured)?;
+    }
     growth::write(rounds)?;
     Ok(ExitCode::SUCCESS)
 }
@@ -293,7 +306,10 @@ struct Line {
     painting: Cost,
     public: Cost,
     text: Cost,
+    sheet: Cost,
     original: Cost,
+    /// The original's instructions with no band left out.
+    original_sheet: Option<u64>,
 }
 
 struct Measured {
@@ -305,7 +321,7 @@ struct Measured {
 impl Measured {
     fn of(sheet: Sheet, rounds: u32, counting: bool) -> io::Result<Measured> {
         assert_accepted(sheet.name, &sheet.words);
-        let manners = manners_of(&sheet);
+        let manners = manners();
         let mut sides = vec![Side::Check];
         for manner in &manners {
             product::assert_painted_alike(&sheet, *manner);
@@ -322,41 +338,54 @@ impl Measured {
             seconds: seconds[nth],
             instructions: counted[nth],
         };
-        let check = cost(0);
         let lines = manners.into_iter().enumerate().map(|(nth, manner)| {
-            let [painting, public, text, original] = [1, 2, 3, 4].map(|side| cost(4 * nth + side));
-            let bands = manner.bands(&sheet.words);
-            let counted = counted_bands(bands.clone());
-            let cells_of = |bands: &[Band]| {
-                let rows: usize = bands.iter().map(|(_, rows)| rows).sum();
-                rows * sheet.words[0] as usize
-            };
-            Line {
-                manner,
-                bands: bands.len(),
-                counted_bands: counted.len(),
-                cells: cells_of(&bands),
-                counted_cells: cells_of(&counted),
-                painting,
-                public,
-                text,
-                original,
-            }
+            let costs = [1, 2, 3, 4, 5].map(|side| cost(5 * nth + side));
+            Line::of(&sheet, manner, costs, counting)
         });
-        let lines = lines.collect();
+        let lines = lines.collect::<io::Result<_>>()?;
         Ok(Measured {
-            sheet,
-            check,
+            check: cost(0),
             lines,
+            sheet,
         })
     }
 }
 
-fn manners_of(sheet: &Sheet) -> Vec<Manner> {
+impl Line {
+    /// The costs are those of the sides in the order of `Side::of`.
+    fn of(sheet: &Sheet, manner: Manner, costs: [Cost; 5], counting: bool) -> io::Result<Line> {
+        let [painting, public, text, call, original] = costs;
+        let bands = manner.bands(&sheet.words);
+        let counted = counted_bands(bands.clone());
+        let cells_of = |bands: &[Band]| {
+            let rows: usize = bands.iter().map(|(_, rows)| rows).sum();
+            rows * sheet.words[0] as usize
+        };
+        let original_sheet = match counted.len() < bands.len() {
+            true => count(sheet, &[Side::OriginalSheet(manner)], counting)?[0],
+            false => original.instructions,
+        };
+        Ok(Line {
+            manner,
+            bands: bands.len(),
+            counted_bands: counted.len(),
+            cells: cells_of(&bands),
+            counted_cells: cells_of(&counted),
+            painting,
+            public,
+            text,
+            sheet: call,
+            original,
+            original_sheet,
+        })
+    }
+}
+
+/// Every manner.
+fn manners() -> Vec<Manner> {
     let mut manners = Vec::new();
     for coloured in [false, true] {
-        let bands = BANDS.into_iter().filter(|band| !is_left_out(sheet, *band));
-        manners.extend(bands.map(|band| Manner { coloured, band }));
+        manners.extend(BANDS.map(|band| Manner { coloured, band }));
     }
     manners
 }

@@ -6,13 +6,14 @@ mod library;
 mod specimens;
 
 use crate::asking::{count_and_seed, shown_image, PROGRESS, SHOWN};
-use crate::band_requests::{Asking, Most};
+use crate::band_requests::{Asking, Most, SHEET_WAYS};
 use crate::codes::{Meant, CHECK_CODES, PAINT_CODES};
 use crate::coverage::Coverage;
 use crate::every_stroke::every_stroke;
 use crate::full::full_images;
 use crate::generate::accepted;
-use crate::requests::Request;
+use crate::requests::{Request, KINDS};
+use crate::sheet_coverage::SheetCoverage;
 use crate::text_coverage::TextCoverage;
 use crate::wrong_use;
 use library::{answer_words, unnoticed_fault, Library};
@@ -80,7 +81,7 @@ fn add_counts<N: Ord>(sums: &mut BTreeMap<N, u64>, more: BTreeMap<N, u64>) {
 struct Tally {
     images: [u64; KIND_NAMES.len()],
     checks_by_code: ByCode,
-    /// Requests by their kind, plain or coloured, as text or not, and by code.
+    /// Requests by their kind, and by code.
     requests: BTreeMap<&'static str, ByCode>,
     /// Images by their maker and the check's code, and requests by how they were made.
     makers: BTreeMap<String, ByCode>,
@@ -89,6 +90,7 @@ struct Tally {
     shown: Vec<Difference>,
     coverage: Coverage,
     texts: TextCoverage,
+    sheets: SheetCoverage,
 }
 
 impl Tally {
@@ -96,13 +98,14 @@ impl Tally {
         Tally {
             images: [0; KIND_NAMES.len()],
             checks_by_code: none_of(&CHECK_CODES),
-            requests: BTreeMap::new(),
+            requests: KINDS.map(|kind| (kind, none_of(&PAINT_CODES))).into(),
             makers: BTreeMap::new(),
-            makings: BTreeMap::new(),
+            makings: SHEET_WAYS.map(|way| (way, 0)).into(),
             differences: 0,
             shown: Vec::new(),
             coverage: Coverage::none(),
             texts: TextCoverage::none(),
+            sheets: SheetCoverage::none(),
         }
     }
 
@@ -121,6 +124,7 @@ impl Tally {
         self.differences += other.differences;
         self.coverage.add(&other.coverage);
         self.texts.add(&other.texts);
+        self.sheets.add(&other.sheets);
         self.shown.extend(other.shown);
         self.shown.sort_by_key(|difference| difference.number);
         self.shown.truncate(SHOWN);
@@ -167,11 +171,8 @@ impl Tally {
             self.differs(number, format!("{made}, check: {what}"), &subject.words);
         }
         for (nth, (how, request)) in requests.into_iter().enumerate() {
-            let text = request.text();
-            self.count(how, &request, &text);
-            let told = if request.output.is_some() { 2 } else { 1 };
-            let lent_words = answer_words(number.wrapping_add(nth as u64), told);
-            if let Some(what) = library.paint_differs(&request, &text, lent_words) {
+            let nth = number.wrapping_add(nth as u64);
+            if let Some(what) = self.ask(library, how, &request, nth) {
                 let what = format!("{made}, {how}, {request}: {what}");
                 self.differs(number, what, &subject.words);
             }
@@ -182,15 +183,32 @@ impl Tally {
         }
     }
 
+    /// What differs in the answer to a request.
+    fn ask(
+        &mut self,
+        library: &mut Library<'_>,
+        how: &'static str,
+        request: &Request,
+        nth: u64,
+    ) -> Option<String> {
+        let text = request.text();
+        self.count(how, request, &text);
+        let told = if request.output.is_some() { 2 } else { 1 };
+        let differs = library.paint_differs(request, &text, answer_words(nth, told));
+        differs.or_else(|| library.in_bands_differs(request))
+    }
+
     /// A request, how it was made, and the text that must be written.
     fn count(&mut self, how: &'static str, request: &Request, text: &[u8]) {
         let code = request.refusal().0;
-        let by_code = self.requests.entry(request.kind());
-        let by_code = by_code.or_insert_with(|| none_of(&PAINT_CODES));
+        let by_code = self.requests.entry(request.kind()).or_default();
         *by_code.entry(code).or_default() += 1;
         *self.makings.entry(how).or_default() += 1;
         if request.output.is_some() && code == 0 {
             self.texts.count(request, text);
+        }
+        if code == 0 {
+            self.sheets.count(request);
         }
     }
 }
@@ -226,6 +244,7 @@ fn tally_last(count: u64) -> Tally {
     for (number, mut specimen) in (count..).zip(full.chain([every_stroke])) {
         let mut asking = Asking::about(std::mem::take(&mut specimen.words), 0, MOST);
         asking.ask_four_cuttings(number);
+        asking.ask_sheets();
         tally.take(&mut library, specimen, asking, number);
     }
     tally
@@ -323,7 +342,27 @@ impl Tally {
                 by_code,
             )?;
         }
-        self.texts.write(out)
+        self.texts.write(out)?;
+        self.sheets.write(out)?;
+        match self.never_met() {
+            never if never.is_empty() => Ok(()),
+            never => writeln!(out, "never met: {}", never.join(", ")),
+        }
+    }
+
+    /// Of all that is to be met, what was not.
+    fn never_met(&self) -> Vec<&str> {
+        let kinds = self.requests.iter();
+        let kinds = kinds.filter(|(_, by_code)| by_code.values().all(|requests| *requests == 0));
+        let ways = self.makings.iter().filter(|(_, requests)| **requests == 0);
+        let names = kinds.map(|(kind, _)| *kind);
+        let names = names.chain(ways.map(|(way, _)| *way));
+        let things = self.coverage.missing().into_iter();
+        names
+            .chain(things)
+            .chain(self.texts.missing())
+            .chain(self.sheets.missing())
+            .collect()
     }
 }
 

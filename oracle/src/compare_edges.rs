@@ -10,7 +10,7 @@ use crate::layout::{
     REVERSED_BIT, SIDE_CHANNEL, SPLINE, START_MARKER_BIT, X_FLOW_BIT,
 };
 use crate::paintlines::{asked, Form, PROGRAM};
-use crate::requests::{Request, Subject};
+use crate::requests::{Request, Rows, Subject};
 use crate::slow_check::slow_check;
 use crate::wrong_use;
 use std::cell::Cell;
@@ -227,10 +227,12 @@ fn both_ways(words: Vec<u32>, path: u32) -> Asked {
     let [plain, coloured] = [false, true].map(|coloured| {
         let request = Request {
             subject: Rc::clone(&subject),
+            rows: Rows::Band {
+                first: 0,
+                rows: u64::from(HEIGHT),
+            },
             coloured,
             output: None,
-            first: 0,
-            rows: u64::from(HEIGHT),
             lent,
         };
         asked(request, Form::Short, PATH_NAMES[path as usize])

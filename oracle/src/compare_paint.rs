@@ -1,6 +1,7 @@
 //! `compare-paint`: the product's program `paintlines`, asked for bands of random
-//! sheets, plain and coloured, as cells and as text, and for refusals. Every word and byte
-//! that was lent is held against the original's picture and the documents.
+//! sheets, plain and coloured, as cells and as text, for whole sheets in one call, and for
+//! refusals. Every word and byte that was lent is held against the original's picture and the
+//! documents.
 
 use crate::asking::{
     count_and_seed, headings_by_code, in_streams, Asked, Comparison, LONGEST_IMAGE,
@@ -10,7 +11,7 @@ use crate::codes::{Target, PAINT_CODES};
 use crate::full::full_images;
 use crate::generate::random_image;
 use crate::paintlines::{asked, bytes, Form, HEAD_WORDS, MOST, PROGRAM};
-use crate::requests::{Request, Subject};
+use crate::requests::{Request, Rows, Subject};
 use crate::wrong_use;
 use std::io;
 use std::process::ExitCode;
@@ -44,13 +45,14 @@ fn streams(count: usize, seed: u64) -> impl Iterator<Item = Vec<Asked>> {
 const LONGEST_FORM: usize = 4_096;
 
 /// All that is asked about the image of this number: one cutting into bands plain
-/// and one coloured, and two as text; of eight images one for the refusals 11, 12 and 20, and
-/// two more once damaged. Every seventh is asked in the long form, as far as the buffers are
-/// short.
+/// and one coloured, and two as text; whole sheets; of eight images one for the refusals 11, 12
+/// and 20, and two more once damaged. Every seventh is asked in the long form, as far as the
+/// buffers are short.
 fn requests_of(number: u64, seed: u64) -> Vec<Asked> {
     let seed = seed.wrapping_add(number);
     let mut asking = Asking::about(random_image(seed), seed, MOST);
     asking.ask_four_cuttings(number);
+    asking.ask_sheets();
     let whole = asking.requests.len();
     match number % 8 {
         1 => {
@@ -58,6 +60,7 @@ fn requests_of(number: u64, seed: u64) -> Vec<Asked> {
             asking.ask_short_of_room();
             asking.ask_outputs();
             asking.ask_short_of_both();
+            asking.ask_sheet_refusals();
         }
         2 | 3 => {
             let times = asking.some_damages();
@@ -121,16 +124,14 @@ fn tallest_bands(asking: &Asking, code: u32, coloured: bool, as_text: bool) -> V
 
 // ---- The end of a stream -------------------------------------------------
 
-/// Streams that end inside a request or hold one that is over a limit, and two that
-/// hold the largest; the program may not be led to answer more.
+/// Streams that end inside a request or hold one that is over a limit, and those that
+/// hold the largest of each kind; the program may not be led to answer more.
 fn endings() -> Vec<Vec<Asked>> {
-    let mut ends = vec![
-        Vec::new(),
-        vec![largest(None), whole(None)],
-        vec![largest(Some(MOST.bytes)), whole(Some(60))],
-    ];
-    for output in [None, Some(60)] {
-        let bytes = bytes(&whole_request(output), Form::Long);
+    let two_cells = [BAND, BAND_AS_TEXT, SHEET].map(|(rows, output)| two_cells(rows, output));
+    let mut ends = vec![Vec::new()];
+    ends.extend(two_cells.iter().map(|one| vec![largest(one), told(one)]));
+    for request in &two_cells {
+        let bytes = bytes(request, Form::Long);
         for cut in [
             1,
             4,
@@ -140,28 +141,36 @@ fn endings() -> Vec<Vec<Asked>> {
             bytes.len() - 1,
         ] {
             let made = format!("broken off after {cut} bytes");
-            ends.push(vec![whole(output), unread(bytes[..cut].to_vec(), made)]);
+            ends.push(vec![told(request), unread(bytes[..cut].to_vec(), made)]);
         }
-        for (place, value) in over_limits(output.is_some()) {
+        for (place, value) in over_limits(request) {
             let mut over = bytes.clone();
             over[4 * place..][..4].copy_from_slice(&value.to_be_bytes());
             over.extend(&bytes);
             let made = format!("word {place} is {value}");
-            ends.push(vec![whole(output), unread(over, made)]);
+            ends.push(vec![told(request), unread(over, made)]);
         }
     }
     ends
 }
 
 /// Words of a request that make it one which is not to be answered. Bytes of an output are
-/// lent for a text alone.
-fn over_limits(is_text: bool) -> Vec<(usize, u32)> {
+/// lent for a text alone, and a sheet is neither a text nor begins below row 0.
+fn over_limits(request: &Request) -> Vec<(usize, u32)> {
     let words = MOST.words as u32 + 1;
-    let bytes = if is_text { MOST.bytes as u32 + 1 } else { 1 };
-    vec![
+    let bytes = match request.output {
+        Some(_) => MOST.bytes as u32 + 1,
+        None => 1,
+    };
+    let of_a_sheet = [(2, 1), (2, u32::MAX), (3, 1), (3, u32::MAX)];
+    let of_a_sheet = of_a_sheet.into_iter().filter(|_| request.is_sheet());
+    let of_any = [
         (0, LONGEST_IMAGE as u32 + 1),
         (0, u32::MAX),
-        (1, 8),
+        (1, 12),
+        (1, 13),
+        (1, 15),
+        (1, 16),
         (1, 1 << 31),
         (6, words),
         (7, words),
@@ -171,31 +180,38 @@ fn over_limits(is_text: bool) -> Vec<(usize, u32)> {
         (10, bytes),
         (10, u32::MAX),
         (11, 1),
-    ]
+    ];
+    of_any.into_iter().chain(of_a_sheet).collect()
 }
 
-/// A sheet of two cells that holds nothing, coloured; with so many bytes of output as text.
-fn whole_request(output: Option<usize>) -> Request {
+/// The row of a sheet of two cells: asked for as a band, as text and as a sheet.
+const BAND: (Rows, Option<usize>) = (Rows::Band { first: 0, rows: 1 }, None);
+const BAND_AS_TEXT: (Rows, Option<usize>) = (BAND.0, Some(60));
+const SHEET: (Rows, Option<usize>) = (Rows::Sheet { band: 1 }, None);
+
+/// A sheet of two cells that holds nothing, coloured.
+fn two_cells(rows: Rows, output: Option<usize>) -> Request {
     let words = [&[2, 1][..], &[0; 10]].concat();
     Request {
         subject: Rc::new(Subject::painted(words)),
+        rows,
         coloured: true,
         output,
-        first: 0,
-        rows: 1,
         lent: [3, 2, 4, 1],
     }
 }
 
-fn whole(output: Option<usize>) -> Asked {
-    asked(whole_request(output), Form::Long, "two cells")
+fn told(two_cells: &Request) -> Asked {
+    asked(two_cells.clone(), Form::Long, "two cells")
 }
 
-fn largest(output: Option<usize>) -> Asked {
+/// As much as there may be, for the same.
+fn largest(two_cells: &Request) -> Asked {
     let request = Request {
         subject: Rc::new(Subject::checked(vec![0; LONGEST_IMAGE])),
+        output: two_cells.output.map(|_| MOST.bytes),
         lent: [MOST.words; 4],
-        ..whole_request(output)
+        ..two_cells.clone()
     };
     let made = "the longest image and the longest buffers";
     asked(request, Form::Short, made)

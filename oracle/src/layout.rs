@@ -106,8 +106,24 @@ pub const INSIDE_BOTTOM_BIT: u32 = 1 << 29;
 /// cells, colours, stamps, scratch. A word that the image lacks is 0.
 #[cfg(original)]
 pub fn room(words: &[u32], rows: usize) -> [usize; 4] {
+    let [width, _, run_part, element_part] = room_numbers(words);
+    let plane = width * rows;
+    [plane, plane, plane, run_part + element_part]
+}
+
+/// "Cells, colours and stamps need width × height words, scratch twice 01's element part
+/// besides its run part", in the same order.
+#[cfg(original)]
+pub fn sheet_room(words: &[u32]) -> [usize; 4] {
+    let [width, height, run_part, element_part] = room_numbers(words);
+    let plane = width * height;
+    [plane, plane, plane, run_part + 2 * element_part]
+}
+
+/// Width, height, and the two parts of the scratch.
+#[cfg(original)]
+fn room_numbers(words: &[u32]) -> [usize; 4] {
     let head = |place: usize| words.get(place).copied().unwrap_or(0) as usize;
-    let scratch = 8 * head(RUN_CAPACITY_WORD) + head(FIRST_COUNT_WORD + ELEMENTS);
-    let plane = head(0) * rows;
-    [plane, plane, plane, scratch]
+    let elements = head(FIRST_COUNT_WORD + ELEMENTS);
+    [head(0), head(1), 8 * head(RUN_CAPACITY_WORD), elements]
 }

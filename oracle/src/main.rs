@@ -47,6 +47,8 @@ mod paintlines;
 mod pivotdawn;
 #[cfg(original)]
 mod requests;
+#[cfg(original)]
+mod sheet_coverage;
 #[cfg(timed)]
 mod sheets;
 mod slow_check;

@@ -8,6 +8,7 @@
 mod bands;
 mod edges;
 mod refused;
+mod sheets;
 mod text;
 mod things;
 mod together;
@@ -18,7 +19,8 @@ use crate::coverage::Coverage;
 use crate::draft::Draft;
 use crate::generate::accepted;
 use crate::paintlines::{answer, bytes, Form};
-use crate::requests::{Request, Subject};
+use crate::requests::{Request, Rows, Subject};
+use crate::sheet_coverage::SheetCoverage;
 use crate::stored::{self, Stored};
 use crate::text_coverage::TextCoverage;
 use crate::wrong_use;
@@ -65,9 +67,13 @@ impl Cases {
         }
     }
 
-    /// A band that is painted, in the short form.
+    /// A band or a sheet that is painted, in the short form.
     fn ask_short(&mut self, name: impl Into<String>, request: Request) {
-        self.ask(name, request, (0, 0));
+        self.ask_in_short(name, request, (0, 0));
+    }
+
+    fn ask_in_short(&mut self, name: impl Into<String>, request: Request, stated: (u32, u32)) {
+        self.ask(name, request, stated);
         if let Some(last) = self.list.last_mut() {
             last.form = Form::Short;
         }
@@ -95,12 +101,12 @@ fn whole(subject: Rc<Subject>, coloured: bool) -> Request {
 /// A band that is on the sheet, each buffer a word longer than needed.
 fn band(subject: Rc<Subject>, coloured: bool, (first, rows): (usize, usize)) -> Request {
     let lent = subject.room(rows).map(|wanted| wanted + 1);
+    let (first, rows) = (first as u64, rows as u64);
     Request {
         subject,
+        rows: Rows::Band { first, rows },
         coloured,
         output: None,
-        first: first as u64,
-        rows: rows as u64,
         lent,
     }
 }
@@ -114,6 +120,7 @@ fn all_cases() -> Vec<Case> {
     bands::add(&mut cases);
     refused::add(&mut cases);
     text::add(&mut cases);
+    sheets::add(&mut cases);
     cases.list
 }
 
@@ -141,7 +148,12 @@ pub fn command(options: &[String]) -> io::Result<ExitCode> {
         return Ok(wrong_use("paint-cases [--write]"));
     };
     let cases = all_cases();
-    let faults = [faults_of(&cases), gaps_of(&cases), gaps_of_texts(&cases)].concat();
+    let gaps = [
+        gaps_of(&cases),
+        gaps_of_texts(&cases),
+        gaps_of_sheets(&cases),
+    ];
+    let faults = [faults_of(&cases), gaps.concat()].concat();
     if stored::write_faults(&faults)? {
         return Ok(ExitCode::FAILURE);
     }
@@ -168,30 +180,66 @@ fn faults_of(cases: &[Case]) -> Vec<String> {
         if case.drawing.is_some_and(|drawing| !is_drawn(drawing)) {
             faults.push(format!("{}: the text is {text:?}", case.name));
         }
+        if !is_swept_alike(&case.request) {
+            let name = &case.name;
+            faults.push(format!("{name}: the original paints other bands"));
+        }
     }
     faults
 }
 
-/// What no case paints, plain or coloured: each path on each flow, weight, look,
-/// policy and width, and bands of several heights.
+/// Whether the original paints the same sheet in the bands that are asked for; of no other
+/// request there is anything to say.
+fn is_swept_alike(request: &Request) -> bool {
+    match request.rows {
+        Rows::Sheet { band } if request.refusal().0 == 0 => {
+            request.subject.is_swept_alike(request.coloured, band)
+        }
+        _ => true,
+    }
+}
+
+/// Bands of so many rows must be asked for.
+const BANDS: [usize; 4] = [0, 1, 3, 8];
+
+/// Sheets must be asked for in bands of so many rows, which are for one of them all rows, and
+/// must be refused in bands of 0.
+const BANDS_OF_SHEETS: [u64; 9] = [
+    1,
+    3,
+    7,
+    8,
+    9,
+    13,
+    u32::MAX as u64,
+    u32::MAX as u64 + 1,
+    u64::MAX,
+];
+
+/// What no case paints, plain or coloured, as a band and as a sheet: each path on each flow,
+/// weight, look, policy and width, and bands of several heights.
 fn gaps_of(cases: &[Case]) -> Vec<String> {
     let mut gaps = Vec::new();
-    for kind in ["plain", "coloured"] {
+    for (kind, bands) in [
+        ("plain", &BANDS[..]),
+        ("coloured", &BANDS),
+        ("plain sheet", &[]),
+        ("coloured sheet", &[]),
+    ] {
         let painted = cases.iter().map(|case| &case.request);
         let painted = painted.filter(|one| one.kind() == kind && one.refusal().0 == 0);
         let mut coverage = Coverage::none();
         let mut heights = BTreeSet::new();
-        for Request { subject, rows, .. } in painted {
+        for request in painted {
+            let (subject, (_, rows)) = (&request.subject, request.first_and_rows());
             let (words, runs) = (&subject.words, subject.answer.runs);
-            heights.insert(*rows);
-            if *rows == subject.height() as u64 {
+            heights.insert(rows);
+            if rows == subject.height() {
                 coverage.count(words, runs, subject.cells());
             }
         }
         let features = coverage.missing().into_iter().map(str::to_string);
-        let bands = [0, 1, 3, 8]
-            .into_iter()
-            .filter(|rows| !heights.contains(rows));
+        let bands = bands.iter().filter(|rows| !heights.contains(*rows));
         let missing = features.chain(bands.map(|rows| format!("a band of {rows} rows")));
         gaps.extend(missing.map(|what| format!("no case paints {kind}: {what}")));
     }
@@ -207,7 +255,7 @@ fn gaps_of_texts(cases: &[Case]) -> Vec<String> {
     let texts = requests.filter(|one| one.output.is_some() && one.refusal().0 == 0);
     for request in texts {
         coverage.count(request, &request.text());
-        heights.insert((request.kind(), request.rows));
+        heights.insert((request.kind(), request.first_and_rows().1));
     }
     let kinds = ["plain text", "coloured text"];
     let bands = kinds.map(|kind| [0, 1, 2, 3, 9].map(|rows| (kind, rows)));
@@ -222,6 +270,36 @@ fn gaps_of_texts(cases: &[Case]) -> Vec<String> {
         .chain(bands)
         .map(|what| format!("no case writes: {what}"))
         .collect()
+}
+
+/// What no case paints as a sheet in one call: bands of several heights, elements that come and
+/// go in each way, and band height 0.
+fn gaps_of_sheets(cases: &[Case]) -> Vec<String> {
+    let mut gaps = Vec::new();
+    for kind in ["plain sheet", "coloured sheet"] {
+        let mut coverage = SheetCoverage::none();
+        let mut bands = BTreeSet::new();
+        let requests = cases.iter().map(|case| &case.request);
+        for request in requests.filter(|one| one.kind() == kind) {
+            let Rows::Sheet { band } = request.rows else {
+                continue;
+            };
+            match request.refusal() {
+                (0, _) => {
+                    coverage.count(request);
+                    bands.insert(band);
+                }
+                (11, 1) => _ = bands.insert(0),
+                _ => {}
+            }
+        }
+        let wanted = [&[0][..], &BANDS_OF_SHEETS].concat().into_iter();
+        let missing = wanted.filter(|band| !bands.contains(band));
+        let missing = missing.map(|band| format!("bands of {band}"));
+        let missing = coverage.missing().map(str::to_string).chain(missing);
+        gaps.extend(missing.map(|what| format!("no case asks for a {kind}: {what}")));
+    }
+    gaps
 }
 
 /// The stream ends inside a request, so the last line is `unread`.

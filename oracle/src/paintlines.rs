@@ -5,7 +5,7 @@ use crate::asking::{bytes_of, Asked};
 use crate::band_requests::Most;
 use crate::codes::{nth_of, PAINT_CODES};
 use crate::hex_row;
-use crate::requests::{Request, BUFFER_NAMES};
+use crate::requests::{Request, Rows, BUFFER_NAMES};
 
 /// The command that runs the program.
 pub const PROGRAM: &str = "PIVOTDAWN_PAINTLINES";
@@ -23,6 +23,7 @@ pub const MOST: Most = Most {
 const COLOURED_BIT: u32 = 1;
 const SHORT_BIT: u32 = 2;
 const TEXT_BIT: u32 = 4;
+const SHEET_BIT: u32 = 8;
 
 /// How the buffers stand in an answer.
 #[derive(Clone, Copy, PartialEq, Eq)]
@@ -40,13 +41,19 @@ pub fn bytes(request: &Request, form: Form) -> Vec<u8> {
         (request.coloured, COLOURED_BIT),
         (form == Form::Short, SHORT_BIT),
         (request.output.is_some(), TEXT_BIT),
+        (request.is_sheet(), SHEET_BIT),
     ];
     let flags = flags.iter().filter(|(is_set, _)| *is_set);
+    // A sheet has the first row 0, and its band height where a band has its rows.
+    let (first, rows) = match request.rows {
+        Rows::Band { first, rows } => (first, rows),
+        Rows::Sheet { band } => (0, band),
+    };
     let words = &request.subject.words;
     let head = [
         &[words.len() as u32, flags.map(|(_, bit)| bit).sum()][..],
-        &halves(request.first),
-        &halves(request.rows),
+        &halves(first),
+        &halves(rows),
         &request.lent.map(|count| count as u32),
         &[request.output.unwrap_or(0) as u32, 0],
     ];

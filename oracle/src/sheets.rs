@@ -84,14 +84,20 @@ fn small_card() -> Draft {
 }
 
 fn add_card(draft: &mut Draft) {
-    add_box(draft, [2, 2, 9, 3], "Motor");
-    add_box(draft, [17, 2, 10, 3], "Ring");
-    add_box(draft, [2, 6, 9, 3], "Worm");
-    add_box(draft, [17, 6, 10, 3], "Pinion");
-    add_group(draft, [0, 0, 29, 10], "Azimuth gearbox");
-    add_edge(draft, [6, 4, 6, 6], DIRECT, 0, [0; 3]);
-    add_edge(draft, [10, 7, 17, 7], DIRECT, X_FLOW_BIT, [0; 3]);
-    add_edge(draft, [21, 6, 21, 4], DIRECT, 0, [0; 3]);
+    add_card_at(draft, 0);
+}
+
+/// The card with its first row there.
+fn add_card_at(draft: &mut Draft, top: u32) {
+    add_box(draft, [2, top + 2, 9, 3], "Motor");
+    add_box(draft, [17, top + 2, 10, 3], "Ring");
+    add_box(draft, [2, top + 6, 9, 3], "Worm");
+    add_box(draft, [17, top + 6, 10, 3], "Pinion");
+    add_group(draft, [0, top, 29, 10], "Azimuth gearbox");
+    add_edge(draft, [6, top + 4, 6, top + 6], DIRECT, 0, [0; 3]);
+    let along = [10, top + 7, 17, top + 7];
+    add_edge(draft, along, DIRECT, X_FLOW_BIT, [0; 3]);
+    add_edge(draft, [21, top + 6, 21, top + 4], DIRECT, 0, [0; 3]);
 }
 
 /// A screen of 80 columns by 24 rows: sixteen named groups, an edge from each to the one
@@ -309,14 +315,14 @@ fn step(table: usize, count: u32, made: fn(u32) -> Draft) -> Step {
     }
 }
 
-/// A sheet that doubles three times, and nothing else does.
+/// A sheet that doubles three times.
 pub struct GrowingSheet {
     pub what: &'static str,
     pub sheets: Vec<Vec<u32>>,
 }
 
-/// In width, in height and in both, under things that stay as they are and under things
-/// that reach over the whole sheet.
+/// In width, in height and in both, and nothing else does: under things that stay as they are
+/// and under things that reach over the whole sheet.
 pub fn growing_sheets() -> Vec<GrowingSheet> {
     let kinds: [(&str, [u32; 2], fn(&mut Draft)); 6] = [
         ("width, a small card", [1, 0], add_card),
@@ -338,6 +344,48 @@ pub fn growing_sheets() -> Vec<GrowingSheet> {
             .collect(),
     };
     kinds.into_iter().map(grown).collect()
+}
+
+/// In height alone: the same things on twice the rows, and twice the things on them, up to
+/// the limit of the nodes.
+pub fn taller_sheets() -> Vec<GrowingSheet> {
+    const ROWS: u32 = 32 * CARD_ROWS;
+    let kinds: [(&str, fn(&mut Draft)); 4] = [
+        ("rows, one card on them", add_card),
+        ("rows, things from end to end", add_end_to_end),
+        ("rows and cards, one on twelve rows", add_cards),
+        ("rows and placed labels, one on three rows", add_label_rows),
+    ];
+    let grown = |(what, fill): (_, fn(&mut Draft))| GrowingSheet {
+        what,
+        sheets: (0..4)
+            .map(|step| {
+                let mut draft = Draft::blank_sheet(29, ROWS << step);
+                fill(&mut draft);
+                accepted(&draft)
+            })
+            .collect(),
+    };
+    kinds.into_iter().map(grown).collect()
+}
+
+/// The rows of a card, and two below it.
+const CARD_ROWS: u32 = 12;
+
+/// Cards one below the other on the whole sheet.
+fn add_cards(draft: &mut Draft) {
+    for nth in 0..draft.head[1] / CARD_ROWS {
+        add_card_at(draft, nth * CARD_ROWS);
+    }
+}
+
+/// A placed label on every third row.
+fn add_label_rows(draft: &mut Draft) {
+    let edge = add_edge(draft, [5, 0, 5, 8], DIRECT, 0, [0; 3]);
+    write_edge_label(draft, edge);
+    for nth in 0..draft.head[1] / 3 {
+        draft.add(PLACED_LABELS, &[edge, 5, 3 * nth, 1 << 31]);
+    }
 }
 
 /// A group around the sheet, and an edge of each flow from end to end.

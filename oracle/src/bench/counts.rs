@@ -15,7 +15,8 @@ pub fn pivotdawn_counted(work: &mut dyn FnMut()) {
 }
 
 /// `bench-once SIDE FILE`: one call of a side on an image, for valgrind. A call before it
-/// does what only a first call has to do.
+/// does what only a first call has to do; beside hundreds of bands of the original that is
+/// nothing, and the call would take minutes.
 pub fn once(options: &[String]) -> io::Result<ExitCode> {
     let [name, file] = options else {
         return Ok(wrong_use("bench-once SIDE FILE"));
@@ -26,7 +27,9 @@ pub fn once(options: &[String]) -> io::Result<ExitCode> {
     let words = image::words_of(&fs::read(file)?).unwrap_or_default();
     with_plan(&words, |planned| {
         let mut work = side.work(&words, planned, counted_bands);
-        work();
+        if !matches!(side, Side::OriginalSheet(_)) {
+            work();
+        }
         pivotdawn_counted(&mut work);
     });
     Ok(ExitCode::SUCCESS)

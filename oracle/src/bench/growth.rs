@@ -1,9 +1,10 @@
-//! How the cost of the check and of the painting grows, as a table or the sheet doubles.
+//! How the cost of the check, of the painting and of the call for a whole sheet grows, as a
+//! table or the sheet doubles.
 
 use super::clock::{least_seconds, Work};
 use super::product::{self, Call};
 use super::{assert_accepted, check_work, Manner, ALL_ROWS};
-use crate::sheets::{growing_sheets, growths, GrowingSheet, Growth};
+use crate::sheets::{growing_sheets, growths, taller_sheets, GrowingSheet, Growth};
 use std::io::{self, Write as _};
 
 /// The whole sheet as one band, plain.
@@ -12,11 +13,19 @@ const WHOLE: Manner = Manner {
     band: ALL_ROWS,
 };
 
+/// The lowest bands, plain: whatever a band does for the whole sheet is done for each row.
+const BY_ROWS: Manner = Manner {
+    coloured: false,
+    band: 1,
+};
+
 /// What is measured on a sheet that grows.
 #[derive(Clone, Copy)]
 enum Measure {
     Check,
     Painting,
+    /// The call for a whole sheet.
+    Sheet,
 }
 
 impl Measure {
@@ -24,6 +33,7 @@ impl Measure {
         match self {
             Measure::Check => check_work(words),
             Measure::Painting => product::work(words, WHOLE, Call::Painting, WHOLE.bands(words)),
+            Measure::Sheet => product::sheet_work(words, BY_ROWS),
         }
     }
 }
@@ -43,7 +53,8 @@ pub fn write(rounds: u32) -> io::Result<()> {
             writeln!(out, "{}", table_row(&growth, measure, rounds))?;
         }
     }
-    write_sheets(rounds)
+    write_sheets(rounds)?;
+    write_rows(rounds)
 }
 
 /// Nanoseconds for a record at the least count, and multiples of it. Where a record costs
@@ -109,24 +120,26 @@ fn write_sheets(rounds: u32) -> io::Result<()> {
     Ok(())
 }
 
-fn sheet_row(growing: &GrowingSheet, rounds: u32) -> String {
-    let of_all = |measure: Measure| {
-        let works = growing.sheets.iter().map(|words| measure.work(words));
-        least_seconds(&mut works.collect::<Vec<_>>(), rounds)
-    };
+/// The seconds of each step of a sheet that grows.
+fn seconds_of(growing: &GrowingSheet, measure: Measure, rounds: u32) -> Vec<f64> {
     for words in &growing.sheets {
         assert_accepted(growing.what, words);
     }
-    let checks = of_all(Measure::Check);
-    let cells = growing
-        .sheets
-        .iter()
-        .map(|words| f64::from(words[0] * words[1]));
-    let painting: Vec<f64> = of_all(Measure::Painting)
-        .iter()
-        .zip(cells)
-        .map(|(seconds, cells)| seconds * 1e9 / cells)
-        .collect();
+    let works = growing.sheets.iter().map(|words| measure.work(words));
+    least_seconds(&mut works.collect::<Vec<_>>(), rounds)
+}
+
+/// Nanoseconds for each of what a step has so many of.
+fn nanoseconds_each(seconds: &[f64], growing: &GrowingSheet, count: fn(&[u32]) -> u32) -> Vec<f64> {
+    let counts = growing.sheets.iter().map(|words| f64::from(count(words)));
+    let each = seconds.iter().zip(counts);
+    each.map(|(seconds, count)| seconds * 1e9 / count).collect()
+}
+
+fn sheet_row(growing: &GrowingSheet, rounds: u32) -> String {
+    let checks = seconds_of(growing, Measure::Check, rounds);
+    let painting = seconds_of(growing, Measure::Painting, rounds);
+    let painting = nanoseconds_each(&painting, growing, |words| words[0] * words[1]);
     let least = &growing.sheets[0];
     format!(
         "| {} | {} by {} | {:.0} | {} | {:.3} | {} |",
@@ -138,4 +151,28 @@ fn sheet_row(growing: &GrowingSheet, rounds: u32) -> String {
         painting[0],
         multiples(&painting)
     )
+}
+
+fn write_rows(rounds: u32) -> io::Result<()> {
+    let mut out = io::stdout();
+    writeln!(
+        out,
+        "\nThe time of the call for a whole sheet in bands of one row, its check counted in, for a \
+         row as the height doubles: under the same things, and with as many things more.\n\n\
+         | what doubles | least sheet | ns a row | doubled | twice | three times |\n\
+         |---|--:|--:|--:|--:|--:|"
+    )?;
+    for growing in taller_sheets() {
+        let seconds = seconds_of(&growing, Measure::Sheet, rounds);
+        let rows = nanoseconds_each(&seconds, &growing, |words| words[1]);
+        let [width, height] = [growing.sheets[0][0], growing.sheets[0][1]];
+        writeln!(
+            out,
+            "| {} | {width} by {height} | {:.1} | {} |",
+            growing.what,
+            rows[0],
+            multiples(&rows)
+        )?;
+    }
+    Ok(())
 }

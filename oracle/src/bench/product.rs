@@ -3,7 +3,7 @@
 
 use super::{Band, Manner, Work};
 use crate::as_text::{output_room, text_of};
-use crate::layout::room;
+use crate::layout::{room, ELEMENTS, FIRST_COUNT_WORD};
 use crate::paint::paint;
 use crate::pivotdawn::{self, Outcome, Planes, Written};
 use crate::sheets::Sheet;
@@ -83,6 +83,37 @@ impl Lent {
             output: vec![0; output_room(words[0] as usize, rows, coloured)],
             written: 0,
         }
+    }
+
+    /// "Cells, colours and stamps need width × height words, scratch twice 01's element part
+    /// besides its run part"
+    fn for_sheet(words: &[u32], coloured: bool) -> Lent {
+        let [cells, colours, stamps, scratch] = room(words, words[1] as usize);
+        let elements = words[FIRST_COUNT_WORD + ELEMENTS] as usize;
+        Lent {
+            coloured,
+            cells: vec![0; cells],
+            colours: vec![0; colours],
+            stamps: vec![0; stamps],
+            scratch: vec![0; scratch + elements],
+            output: Vec::new(),
+            written: 0,
+        }
+    }
+
+    /// The call for a whole sheet.
+    fn paint_sheet(&mut self, image: &[u32], band: usize) {
+        let planes = Planes {
+            cells: &mut self.cells,
+            colours: &mut self.colours,
+            stamps: &mut self.stamps,
+            scratch: &mut self.scratch,
+        };
+        let outcome = match self.coloured {
+            false => pivotdawn::paint_sheet(image, band, planes.cells, planes.scratch),
+            true => pivotdawn::paint_sheet_coloured(image, band, planes),
+        };
+        assert_eq!(outcome.code, 0, "a sheet of bench is refused");
     }
 
     fn paint_band(&mut self, call: Call, image: &[u32], band: (usize, usize)) {
@@ -181,15 +212,28 @@ pub fn work(words: &[u32], manner: Manner, call: Call, bands: Vec<Band>) -> Work
     })
 }
 
+/// The whole sheet in one call; the buffers are made before the time begins.
+pub fn sheet_work(words: &[u32], manner: Manner) -> Work<'_> {
+    let mut lent = Lent::for_sheet(words, manner.coloured);
+    Box::new(move || black_box(&mut lent).paint_sheet(black_box(words), manner.band))
+}
+
 /// A picture that differs from the original's, or a text of another, is not worth a time.
 pub fn assert_painted_alike(sheet: &Sheet, manner: Manner) {
     let Manner { coloured, band } = manner;
     let words = &sheet.words;
     let original =
         paint(words, coloured, usize::MAX).unwrap_or_else(|why| panic!("a sheet of bench: {why}"));
+    let [name, how] = [sheet.name, &manner.name()];
+    let assert_alike = |cells: &[u32], colours: &[u32]| {
+        let same_colours = !coloured || colours == original.colours;
+        assert!(
+            cells == original.cells && same_colours,
+            "{name}, {how}: another picture"
+        );
+    };
     let colours = coloured.then_some(&original.colours[..]);
     let its_text = text_of(original.width, original.height, &original.cells, colours);
-    let [name, how] = [sheet.name, &manner.name()];
     for call in [Call::Painting, Call::Public, Call::Text] {
         let mut lent = Lent::for_rows(words, coloured, band.min(original.height));
         let [mut cells, mut colours] = [(); 2].map(|()| Vec::<u32>::new());
@@ -201,12 +245,11 @@ pub fn assert_painted_alike(sheet: &Sheet, manner: Manner) {
             colours.extend(&lent.colours[..painted]);
             text.extend(&lent.output[..lent.written]);
         }
-        let same_colours = !coloured || colours == original.colours;
-        assert!(
-            cells == original.cells && same_colours,
-            "{name}, {how}: another picture"
-        );
+        assert_alike(&cells, &colours);
         let same_text = !matches!(call, Call::Text) || text == its_text;
         assert!(same_text, "{name}, {how}: another text");
     }
+    let mut lent = Lent::for_sheet(words, coloured);
+    lent.paint_sheet(words, band);
+    assert_alike(&lent.cells, &lent.colours);
 }

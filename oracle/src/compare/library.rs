@@ -3,10 +3,11 @@
 use super::MOST;
 use crate::band_requests::Asking;
 use crate::pivotdawn::{
-    check, check_into, paint, paint_coloured, paint_coloured_into, paint_into, paint_text,
+    check, check_into, paint, paint_coloured, paint_coloured_into, paint_into, paint_sheet,
+    paint_sheet_coloured, paint_sheet_coloured_into, paint_sheet_into, paint_text,
     paint_text_coloured, paint_text_coloured_into, paint_text_into, Planes,
 };
-use crate::requests::{Request, Subject, BUFFER_NAMES};
+use crate::requests::{Request, Rows, Subject, BUFFER_NAMES, CELLS, COLOURS};
 
 /// A call of the library, which a test of the comparison may spoil.
 pub struct Library<'s> {
@@ -61,9 +62,10 @@ impl<'s> Library<'s> {
         let called = &mut self.called;
         called.lend(request);
         called.answer = vec![UNTOLD; answer_words];
-        match request.output {
-            Some(_) => called.paint_text(request),
-            None => called.paint(request),
+        match (request.rows, request.output) {
+            (Rows::Sheet { band }, _) => called.paint_sheet(request, band as usize),
+            (_, Some(_)) => called.paint_text(request),
+            (_, None) => called.paint(request),
         }
         self.spoil();
         let (code, place) = request.refusal();
@@ -74,6 +76,19 @@ impl<'s> Library<'s> {
         };
         let in_answer = self.called.answer_differs(code, told);
         in_answer.or_else(|| self.called.lent_differs(request, text))
+    }
+
+    /// What differs between the sheet that was just painted and the same sheet in bands: by the
+    /// library's own calls for a band, joined, and by the original.
+    pub fn in_bands_differs(&self, request: &Request) -> Option<String> {
+        let Rows::Sheet { band } = request.rows else {
+            return None;
+        };
+        if request.refusal().0 != 0 {
+            return None;
+        }
+        let joined = self.called.joined_differs(request, band as usize);
+        joined.or_else(|| swept_differs(request, band))
     }
 }
 
@@ -101,7 +116,7 @@ impl Called {
     /// The same.
     fn paint(&mut self, request: &Request) {
         let (words, answer) = (&request.subject.words, &mut self.answer[..]);
-        let (first, rows) = (request.first as usize, request.rows as usize);
+        let (first, rows) = request.first_and_rows();
         let planes = planes(&mut self.lent);
         let outcome = match (request.coloured, answer.len()) {
             (false, 1) => paint(words, first, rows, planes.cells, planes.scratch),
@@ -117,10 +132,28 @@ impl Called {
         (self.code, answer[0]) = (outcome.code, outcome.place);
     }
 
+    /// The same, for a whole sheet.
+    fn paint_sheet(&mut self, request: &Request, band: usize) {
+        let (words, answer) = (&request.subject.words, &mut self.answer[..]);
+        let planes = planes(&mut self.lent);
+        let outcome = match (request.coloured, answer.len()) {
+            (false, 1) => paint_sheet(words, band, planes.cells, planes.scratch),
+            (true, 1) => paint_sheet_coloured(words, band, planes),
+            (coloured, _) => {
+                self.code = match coloured {
+                    false => paint_sheet_into(words, band, planes.cells, planes.scratch, answer),
+                    true => paint_sheet_coloured_into(words, band, planes, answer),
+                };
+                return;
+            }
+        };
+        (self.code, answer[0]) = (outcome.code, outcome.place);
+    }
+
     /// The same, as text.
     fn paint_text(&mut self, request: &Request) {
         let (words, answer) = (&request.subject.words, &mut self.answer[..]);
-        let (first, rows) = (request.first as usize, request.rows as usize);
+        let (first, rows) = request.first_and_rows();
         let (planes, out) = (planes(&mut self.lent), &mut self.output[..]);
         let written = match (request.coloured, answer.len()) {
             (false, 2) => paint_text(words, first, rows, planes.cells, planes.scratch, out),
@@ -168,6 +201,77 @@ impl Called {
     }
 }
 
+// ---- A sheet and its bands ---------------------------------------------------
+
+/// A sheet is joined of at most so many bands: each is checked anew.
+const MOST_JOINED: usize = 40;
+
+/// A word of a joined plane before its band is painted.
+const UNPAINTED: u32 = 0x7E57_7E57;
+
+impl Called {
+    /// The sheet that was painted beside its bands: of the height that was asked, or of more
+    /// where there would be too many of them.
+    fn joined_differs(&self, request: &Request, band: usize) -> Option<String> {
+        let height = request.subject.height().max(1);
+        let band = band.clamp(height.div_ceil(MOST_JOINED), height);
+        let joined = match joined(request, band) {
+            Ok(joined) => joined,
+            Err(code) => return Some(format!("code {code} for a band of {band}")),
+        };
+        let room = request.room();
+        let in_plane = |buffer: usize| {
+            let name = format!("{} beside bands of {band},", BUFFER_NAMES[buffer]);
+            let sheet = &self.lent[buffer][..room[buffer]];
+            differs(&name, "word", 8, sheet, &joined[buffer])
+        };
+        let in_cells = in_plane(CELLS);
+        in_cells.or_else(|| request.coloured.then(|| in_plane(COLOURS)).flatten())
+    }
+}
+
+/// The original is asked for a sheet in at most so many bands: in each it walks along every
+/// line that reaches it.
+const MOST_SWEPT: u64 = 100;
+
+/// Whether the original, which carries its own sweep, paints another sheet in these bands.
+fn swept_differs(request: &Request, band: u64) -> Option<String> {
+    let bands = (request.subject.height() as u64).div_ceil(band);
+    let is_asked = 1 < bands && bands <= MOST_SWEPT;
+    let differs = is_asked && !request.subject.is_swept_alike(request.coloured, band);
+    differs.then(|| "the original paints another sheet in these bands".to_string())
+}
+
+/// The four planes after all bands of this height were painted, each into its own part; or the
+/// code of the first that is refused.
+fn joined(request: &Request, band: usize) -> Result<[Vec<u32>; 4], u32> {
+    let Request {
+        subject, coloured, ..
+    } = request;
+    let (width, height) = (subject.width(), subject.height());
+    let mut lent = subject.room(height).map(|wanted| vec![UNPAINTED; wanted]);
+    for first in (0..height).step_by(band) {
+        let rows = band.min(height - first);
+        let part = first * width..(first + rows) * width;
+        let all = planes(&mut lent);
+        let planes = Planes {
+            cells: &mut all.cells[part.clone()],
+            colours: &mut all.colours[part.clone()],
+            stamps: &mut all.stamps[part],
+            scratch: all.scratch,
+        };
+        let words = &subject.words;
+        let outcome = match coloured {
+            false => paint(words, first, rows, planes.cells, planes.scratch),
+            true => paint_coloured(words, first, rows, planes),
+        };
+        if outcome.code != 0 {
+            return Err(outcome.code);
+        }
+    }
+    Ok(lent)
+}
+
 fn planes(lent: &mut [Vec<u32>; 4]) -> Planes<'_> {
     let [cells, colours, stamps, scratch] = lent;
     Planes {
@@ -212,15 +316,12 @@ pub fn answer_words(number: u64, usual: usize) -> usize {
 /// What is changed behind the library's back, and the change.
 type Spoil = (&'static str, fn(&mut Called));
 
-const SPOILS: [Spoil; 11] = [
+const SPOILS: [Spoil; 8] = [
     ("another code", |called| called.code += 1),
     ("another place", |called| called.answer[0] ^= 1),
     ("a word written beyond the answer", |called| {
         called.answer[4] = 0
     }),
-    ("another cell", |called| called.lent[0][5] ^= 1),
-    ("another last cell", |called| called.lent[0][11] ^= 1 << 31),
-    ("another colour", |called| called.lent[1][5] ^= 1),
     ("a stamp that is left", |called| called.lent[2][0] = 1),
     ("a scratch word that is left", |called| {
         called.lent[3][8] = 1
@@ -232,9 +333,21 @@ const SPOILS: [Spoil; 11] = [
         called.lent[2][12] = 0
     }),
     ("a word written beyond the scratch", |called| {
-        called.lent[3][9] = 0
+        called.lent[3][10] = 0
     }),
 ];
+
+/// What is also seen beside the bands of a sheet.
+const SPOILS_OF_PICTURE: [Spoil; 3] = [
+    ("another cell", |called| called.lent[0][5] ^= 1),
+    ("another last cell", |called| called.lent[0][11] ^= 1 << 31),
+    ("another colour", |called| called.lent[1][5] ^= 1),
+];
+
+/// A sheet wants a word of scratch more for each element.
+const SPOILS_OF_SHEET: [Spoil; 1] = [("an active element that is left", |called| {
+    called.lent[3][9] = 1
+})];
 
 /// Word 1 of the answer says where the text ends.
 const SPOILS_OF_TEXT: [Spoil; 4] = [
@@ -261,12 +374,17 @@ pub fn unnoticed_fault() -> Option<&'static str> {
     let (band, lent) = ((0, 3), [14, 14, 14, 11]);
     asking.ask("", true, band, lent);
     asking.ask_text("", true, band, lent, 300);
-    let [(_, cells), (_, text)] = &asking.requests[..] else {
+    asking.ask_sheet("", true, 2, lent);
+    let [(_, cells), (_, text), (_, sheet)] = &asking.requests[..] else {
         return Some("a request that is not made");
     };
-    let unnoticed = unnoticed_in(cells, &SPOILS);
-    let unnoticed = unnoticed.or_else(|| unnoticed_in(text, &SPOILS));
-    let unnoticed = unnoticed.or_else(|| unnoticed_in(text, &SPOILS_OF_TEXT));
+    let of_each = [cells, text, sheet].into_iter().find_map(|request| {
+        let unnoticed = unnoticed_in(request, &SPOILS);
+        unnoticed.or_else(|| unnoticed_in(request, &SPOILS_OF_PICTURE))
+    });
+    let unnoticed = of_each.or_else(|| unnoticed_in(text, &SPOILS_OF_TEXT));
+    let unnoticed = unnoticed.or_else(|| unnoticed_in(sheet, &SPOILS_OF_SHEET));
+    let unnoticed = unnoticed.or_else(|| unnoticed_beside_bands(sheet));
     unnoticed.or_else(|| {
         let mut library = Library::new();
         library.spoil = Some(&|called| called.answer[1] += 1);
@@ -283,6 +401,23 @@ fn unnoticed_in(request: &Request, spoils: &'static [Spoil]) -> Option<&'static 
     for (what, spoil) in spoils {
         library.spoil = Some(spoil);
         if library.paint_differs(request, &text, 5).is_none() {
+            return Some(what);
+        }
+    }
+    None
+}
+
+/// The same of the comparison of a sheet with its bands.
+fn unnoticed_beside_bands(sheet: &Request) -> Option<&'static str> {
+    let mut library = Library::new();
+    library.paint_differs(sheet, &[], 5);
+    if library.in_bands_differs(sheet).is_some() {
+        return Some("that a sheet of one edge is not its bands");
+    }
+    for (what, spoil) in &SPOILS_OF_PICTURE {
+        library.spoil = Some(spoil);
+        library.paint_differs(sheet, &[], 5);
+        if library.in_bands_differs(sheet).is_none() {
             return Some(what);
         }
     }

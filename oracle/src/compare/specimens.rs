@@ -121,9 +121,10 @@ fn damaged(nth: u64, number: u64, seed: u64) -> Specimen {
     }
 }
 
-/// All that is asked about an image besides the check: four cuttings, of every second image
-/// outputs around the room of a text, and of eight images one for the refusals 11 and 12 and
-/// their order. A refused image is asked for more than one band.
+/// All that is asked about an image besides the check: four cuttings, whole sheets in bands of
+/// three heights, of every second image outputs around the room of a text, and of eight images
+/// one for the refusals 11 and 12 and their order. A refused image is asked for more than one
+/// band.
 pub fn asking_about(words: Vec<u32>, number: u64, seed: u64) -> Asking {
     let mut asking = Asking::about(words, seed.wrapping_add(number), MOST);
     asking.ask_four_cuttings(number);
@@ -131,6 +132,7 @@ pub fn asking_about(words: Vec<u32>, number: u64, seed: u64) -> Asking {
         asking.ask_for_no_row();
         return asking;
     }
+    asking.ask_sheets();
     if number % 2 == 0 {
         asking.ask_outputs();
     }
@@ -138,6 +140,7 @@ pub fn asking_about(words: Vec<u32>, number: u64, seed: u64) -> Asking {
         asking.ask_beyond();
         asking.ask_short_of_room();
         asking.ask_short_of_both();
+        asking.ask_sheet_refusals();
     }
     asking
 }

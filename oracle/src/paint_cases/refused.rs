@@ -5,7 +5,7 @@ use super::{band, subject_of, whole, Cases};
 use crate::generate::accepted_draft;
 use crate::layout::GLYPHS;
 use crate::limits::broken_for;
-use crate::requests::{Request, Subject, BUFFER_NAMES, CELLS, COLOURS, SCRATCH, STAMPS};
+use crate::requests::{Request, Rows, Subject, BUFFER_NAMES, CELLS, COLOURS, SCRATCH, STAMPS};
 use std::rc::Rc;
 
 pub fn add(cases: &mut Cases) {
@@ -47,10 +47,12 @@ fn of_the_check(cases: &mut Cases, what: &str, codes: &[u32]) {
         for (kind, coloured) in [("plain", false), ("coloured", true)] {
             let request = Request {
                 subject: Rc::clone(&subject),
+                rows: Rows::Band {
+                    first: rows / 2,
+                    rows,
+                },
                 coloured,
                 output: None,
-                first: rows / 2,
-                rows,
                 lent,
             };
             let name = format!("refused for {what}, {name}, {kind}");
@@ -82,10 +84,9 @@ fn beyond_the_sheet(cases: &mut Cases) {
         for (name, lent) in [("enough lent", [90, 90, 90, 40]), ("nothing lent", [0; 4])] {
             let request = Request {
                 subject: Rc::clone(&subject),
+                rows: Rows::Band { first, rows },
                 coloured: first % 2 == 1,
                 output: None,
-                first,
-                rows,
                 lent,
             };
             let name = format!("{rows} rows from {first} of nine, {name}");
@@ -166,7 +167,7 @@ fn several_short(cases: &mut Cases) {
 const NAME: u32 = 5;
 
 /// The medley with another glyph for that name, and the glyph's place.
-fn pasted(glyph: u32) -> (Rc<Subject>, u32) {
+pub fn pasted(glyph: u32) -> (Rc<Subject>, u32) {
     let mut draft = accepted_draft(&medley());
     draft.tables[GLYPHS][NAME as usize] = vec![glyph];
     let subject = Subject::painted(draft.to_words());
@@ -196,8 +197,7 @@ fn pasted_and_beyond(cases: &mut Cases) {
     for (first, rows) in [(0, 10), (9, 1), (u64::MAX, 1), (0, 0), (9, 0)] {
         for (kind, coloured) in [("plain", false), ("coloured", true)] {
             let request = Request {
-                first,
-                rows,
+                rows: Rows::Band { first, rows },
                 ..whole(Rc::clone(&subject), coloured)
             };
             let name = format!("a box named 001B, {rows} rows from {first} of nine, {kind}");

@@ -13,7 +13,7 @@ use crate::layout::{
     PLACED_LABELS, SELF_LOOP_BIT, SHOW_DUMMIES_BIT, SIMPLE, START_MARKER_BIT, X_FLOW_BIT,
 };
 use crate::limits::broken_for;
-use crate::requests::{Request, Subject, BUFFER_NAMES};
+use crate::requests::{Request, Rows, Subject, BUFFER_NAMES};
 use std::rc::Rc;
 
 const KINDS: [(&str, bool); 2] = [("plain text", false), ("coloured text", true)];
@@ -35,7 +35,8 @@ pub fn add(cases: &mut Cases) {
 
 /// As text, with so many bytes of output beyond the room.
 fn as_text(request: Request, beyond: usize) -> Request {
-    let room = (request.subject).output_room(request.rows as usize, request.coloured);
+    let (_, rows) = request.first_and_rows();
+    let room = request.subject.output_room(rows, request.coloured);
     Request {
         output: Some(room + beyond),
         ..request
@@ -287,10 +288,9 @@ fn refused_by_the_check(cases: &mut Cases) {
         for ((kind, coloured), output) in KINDS.into_iter().zip([0, 9]) {
             let request = Request {
                 subject: Rc::clone(&subject),
+                rows: Rows::Band { first: 0, rows: 1 },
                 coloured,
                 output: Some(output),
-                first: 0,
-                rows: 1,
                 lent: [3; 4],
             };
             let name = format!("refused for code {code}, {output} bytes of output, {kind}");
@@ -306,8 +306,7 @@ fn refused_by_painting(cases: &mut Cases) {
             for (first, rows) in [(9, 1), (0, 10), (1 << 63, 1 << 63), (u64::MAX, u64::MAX)] {
                 let request = Request {
                     output: Some(output),
-                    first,
-                    rows,
+                    rows: Rows::Band { first, rows },
                     ..two_rows(coloured)
                 };
                 let band = format!("{rows} rows from {first} of nine");
