@@ -1,4 +1,6 @@
 // The two arrows of an Orthogonal path.
+#![tactic(auto)]
+
 ghost use Rattle.std.specs.Prelude.{◌≡◌, ◌+◌, ◌≤◌, ◌<◌};
 ghost use Rattle.orthogonal.specs.Points.{stops};
 ghost use Rattle.orthogonal.specs.Orthogonal.{toward, straight, apart, long, nearer, inside, mark_facing, end_mark, end_marks};

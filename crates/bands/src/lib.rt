@@ -1,4 +1,6 @@
 // A whole sheet of an accepted image, band by band, with one sweep.
+#![tactic(auto)]
+
 ghost use Rattle.std.specs.Prelude.{◌≡◌, ◌+◌, ◌≤◌, ◌<◌, length, replicate};
 ghost use Rattle.layout.specs.Small.{AllSmall};
 ghost use Rattle.layout.specs.Tables.{tables_of};
@@ -18,7 +20,7 @@ use sweep::Sweep;
 use window::Lent;
 
 // Where a band's words lie in a plane of the sheet.
-#[derive(Drop)]
+#[derive(Clone, Copy)]
 struct Part {
     // the first word of its first row
     start: usize,

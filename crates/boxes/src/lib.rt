@@ -1,4 +1,6 @@
 // The border of a box: four corners, and strokes between them.
+#![tactic(auto)]
+
 ghost use Rattle.std.specs.Prelude.{◌≡◌, ◌&&◌, ◌||◌, ◌++◌, ◌+◌, ◌≤◌, ◌<◌, leb, ltb};
 ghost use Rattle.window.specs.Writes.{tinted};
 ghost use Rattle.window.specs.Window.{ink_window, canvas_of, Ready};

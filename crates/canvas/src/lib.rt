@@ -1,3 +1,5 @@
 // Ink on lent cells.
+#![tactic(auto)]
+
 pub mod packed;
 pub mod row;

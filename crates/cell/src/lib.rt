@@ -1,4 +1,6 @@
 // One cell of the picture: its parts, packed into a word and read back, and the three rules by which ink falls on what is there.
+#![tactic(auto)]
+
 ghost use Rattle.std.specs.Prelude.{◌≡◌, ◌<◌, ◌≤◌};
 ghost use Rattle.cell.specs.OneCell.{weight_number, marker_number, dir_number, weight_of, marker_of, dir_of};
 ghost use Rattle.cell.specs.OneCell.{vertical, horizontal, pack_arms, pack_marker, pack, read_arms, read_text, read_marker, read};
@@ -7,7 +9,7 @@ ghost use Rattle.cell.specs.Computed.{double_on};
 ghost use Rattle.cell.specs.OneCell.{stroked, marked, painted_stroke, painted_marker, painted_text};
 
 // The weight of one arm of a stroke.
-#[derive(Drop)]
+#[derive(Clone, Copy)]
 pub enum Weight {
     // No arm.
     None,
@@ -60,7 +62,7 @@ impl Weight {
 }
 
 // Ink that stands at an end or a node, and is no part of a line.
-#[derive(Drop)]
+#[derive(Clone, Copy)]
 pub enum MarkerKind {
     // The head of an edge, pointing in its direction.
     Arrow,
@@ -93,7 +95,7 @@ impl MarkerKind {
 }
 
 // Where an arrow points.
-#[derive(Drop)]
+#[derive(Clone, Copy)]
 pub enum Dir {
     // To the row above.
     Up,
@@ -130,7 +132,7 @@ impl Dir {
 }
 
 // The four arms of a stroke.
-#[derive(Drop)]
+#[derive(Clone, Copy)]
 pub struct Arms {
     // To the row above.
     pub up: Weight,
@@ -255,7 +257,7 @@ impl Arms {
 }
 
 // What a cell means.
-#[derive(Drop)]
+#[derive(Clone, Copy)]
 pub enum Parts {
     // Nothing was written.
     Empty,
@@ -376,7 +378,7 @@ fn double_on(old: Parts, new: Arms) -> Arms
 }
 
 // A cell is the packing of its parts in a word.
-#[derive(Drop)]
+#[derive(Clone, Copy)]
 pub struct Cell(pub u32);
 
 impl Cell {

@@ -1,5 +1,7 @@
 // For each image of a stream on standard input, a line with code, place and run count. An image is a word n, then n words, each word four bytes, the most
 // significant first. An image of over 131,072 words, and a stream that breaks off inside an image, end the answers with `unread`.
+#![tactic(auto)]
+
 ghost use Rattle.std.specs.Prelude.{◌≡◌, ◌≤◌, length};
 ghost use Rattle.checklines.specs.Stream.{Fitting};
 
@@ -7,7 +9,7 @@ use libc::{STDIN_FILENO, STDOUT_FILENO};
 use refusals::Answer;
 
 // What stands next on the stream.
-#[derive(Drop)]
+#[derive(Clone, Copy)]
 enum Next {
     // an image of so many words
     Image(usize),

@@ -1,4 +1,6 @@
 // Code 13: "Values 0000 to 001F and 007F to 009F are no longer glyphs", glyph by glyph.
+#![tactic(auto)]
+
 ghost use Rattle.std.specs.Prelude.{◌≡◌};
 ghost use Rattle.ground.specs.Judged.{first_bad};
 ghost use Rattle.layout.specs.Inside.{Inside};

@@ -1,4 +1,6 @@
 // Code 6: "a MultiSegment corner lies below 0", edge by edge.
+#![tactic(auto)]
+
 ghost use Rattle.std.specs.Prelude.{◌≡◌, ◌<◌};
 ghost use Rattle.ground.specs.Judged.{first_bad};
 ghost use Rattle.layout.specs.Small.{AllSmall};

@@ -1,5 +1,7 @@
 // A piece of an edge, drawn in a window of rows: a line, one stroke or arrow, or a run, which is kept in the scratch. Each kind has a function of its own, small
 // enough for the compiler to put it where the piece is made, so that the piece need not lie in memory.
+#![tactic(auto)]
+
 ghost use Rattle.std.specs.Prelude.{◌≡◌, [], ◌∷◌, ◌+◌, ◌≤◌};
 ghost use Rattle.window.specs.Writes.{stamp_tint};
 ghost use Rattle.window.specs.Window.{canvas_of, Ready};
@@ -14,7 +16,7 @@ use window::{Lent, Paint, Tint};
 
 // With what an edge is drawn, and where: no more of an edge than its ink depends on. The window stands first: behind a byte, copies of it would begin at an odd
 // place, and wait for what was stored before.
-#[derive(Drop)]
+#[derive(Clone, Copy)]
 pub struct Pen {
     // the rows that are painted
     pub window: Window,

@@ -1,4 +1,6 @@
 // Code 4 for an edge: its words in turn. Each function is told where the edge begins and what the tables that it refers to hold.
+#![tactic(auto)]
+
 ghost use Rattle.std.specs.Prelude.{◌≡◌, ◌+◌, ◌≤◌, ◌<◌, length};
 ghost use Rattle.ground.specs.Judged.{first_bad, judged_words};
 ghost use Rattle.layout.specs.Layout.{edge_a, edge_label_start, edge_size};
@@ -48,7 +50,7 @@ fn bad_edge_flags(before: Found, image: &[u32], place: usize) -> Found
 }
 
 // Whether an edge's a, b and c each keep the rule of its path.
-#[derive(Drop)]
+#[derive(Clone, Copy)]
 pub struct PathWords {
     // a bend, a channel, a first point, or unused
     pub a: bool,

@@ -1,5 +1,7 @@
 // The stage of edges, by index: their strokes and arrows at once, their runs kept in the scratch. An edge is passed over that no element lists with rows of
 // the window.
+#![tactic(auto)]
+
 ghost use Rattle.std.specs.Prelude.{◌≡◌, ◌≤◌, ◌<◌};
 ghost use Rattle.layout.specs.Layout.{max_things};
 ghost use Rattle.picture.specs.Writes.{edge_writes, edges, runs_of_edge, runs};

@@ -1,4 +1,6 @@
 // The list of elements by itself: codes 7 and 8, and each thing's listing, found in one walk.
+#![tactic(auto)]
+
 ghost use Rattle.std.specs.Prelude.{◌≡◌, ◌+◌, ◌*◌, ◌-◌, ◌≤◌, ◌<◌, length, get_or, set, replicate};
 ghost use Rattle.ground.specs.Judged.{first_bad};
 ghost use Rattle.layout.specs.Layout.{max_elements, element_size};

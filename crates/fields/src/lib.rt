@@ -1,4 +1,6 @@
 // Code 4: the records of each table in turn.
+#![tactic(auto)]
+
 ghost use Rattle.std.specs.Prelude.{◌≡◌};
 ghost use Rattle.ground.specs.Each.{each};
 ghost use Rattle.ground.specs.Judged.{first_bad};

@@ -1,5 +1,7 @@
 // What a refusal of codes 5, 7, 8 or 9 is about: how a width range breaks its rule, which element lists a thing, how an element's rows are out of order, and which rows a thing
 // touches. Each call is told the image and a record's number, and takes any words.
+#![tactic(auto)]
+
 ghost use Rattle.std.specs.Prelude.{◌≡◌, ◌≤◌, ◌<◌};
 ghost use Rattle.layout.specs.Fields.{table_of, field_at};
 ghost use Rattle.layout.specs.Small.{AllSmall};
@@ -33,7 +35,7 @@ pub fn field_of(image: &[u32], kind: RecordKind, k: usize, offset: usize) -> u32
 }
 
 // How a width range breaks the rule of code 5.
-#[derive(Drop)]
+#[derive(Clone, Copy)]
 pub struct RangeFaults {
     // its first value
     pub first: u32,
@@ -110,7 +112,7 @@ pub fn element(image: &[u32], k: usize) -> Element
 }
 
 // How an element's rows are out of order.
-#[derive(Drop)]
+#[derive(Clone, Copy)]
 pub struct OrderFaults {
     // the first row of the element before it
     pub before: u32,

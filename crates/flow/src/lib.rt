@@ -1,5 +1,7 @@
 // What both flows share: the pieces of an edge as values, a coordinate so many cells along the flow, the arrows on a line, the arms of a corner, and the bend
 // of an edge or of a leg.
+#![tactic(auto)]
+
 ghost use Rattle.std.specs.Prelude.{◌≡◌, ◌&&◌, ◌≤◌, ◌<◌};
 ghost use Rattle.flow.specs.Flow.{sign_of, coordinate_of, along, source_marker, target_marker, head_at, start_head, end_head};
 ghost use Rattle.flow.specs.Flow.{line_of, arm_if, corner, corner_bend, leg_bend, corner_steps};
@@ -10,7 +12,7 @@ use image::Edge;
 use rows::Rows;
 
 // A signed sum as a row or a column.
-#[derive(Drop)]
+#[derive(Clone, Copy)]
 pub enum Coordinate {
     // 0 or more
     At(usize),
@@ -19,7 +21,7 @@ pub enum Coordinate {
 }
 
 // An arrow on a line.
-#[derive(Drop)]
+#[derive(Clone, Copy)]
 pub enum Head {
     // no arrow
     None,
@@ -28,7 +30,7 @@ pub enum Head {
 }
 
 // A line with at most two arrows.
-#[derive(Drop)]
+#[derive(Clone, Copy)]
 pub struct Line {
     // the column of a vertical line, the row of a horizontal one
     pub lane: usize,
@@ -43,7 +45,7 @@ pub struct Line {
 }
 
 // One piece of ink of an edge.
-#[derive(Drop)]
+#[derive(Clone, Copy)]
 pub enum Piece {
     // no ink
     Nothing,
@@ -81,7 +83,7 @@ pub enum Piece {
 }
 
 // A way that bends once.
-#[derive(Drop)]
+#[derive(Clone, Copy)]
 pub struct Bend {
     // it has a line from its start to the bend
     pub has_trunk: bool,
@@ -104,7 +106,7 @@ pub struct Bend {
 }
 
 // A leg of a path through points.
-#[derive(Drop)]
+#[derive(Clone, Copy)]
 pub struct Leg {
     // the column of its start
     pub x1: usize,
@@ -121,7 +123,7 @@ pub struct Leg {
 }
 
 // What ink reaches in a window of rows.
-#[derive(Drop)]
+#[derive(Clone, Copy)]
 pub struct Reach {
     // the rows that it touches, from the first to the last
     pub rows: Rows,

@@ -1,5 +1,7 @@
 // The runs that waited, put into the lent planes of a window: "each inked cell gets left and right arms of the heaviest covering weight, and takes the colour of
 // the highest-numbered covering edge only if that number exceeds the stamp".
+#![tactic(auto)]
+
 ghost use Rattle.std.specs.Prelude.{◌≡◌, ◌+◌, ◌*◌, ◌-◌, ◌≤◌, ◌<◌, length};
 ghost use Rattle.ground.specs.Turns.{turns};
 ghost use Rattle.window.specs.Window.{canvas_of, plane_of, Room, LentRoom, Ready};

@@ -1,10 +1,12 @@
 // Subgraphs and nodes: how they look, and which rows of a window they touch.
+#![tactic(auto)]
+
 pub mod frames;
 pub mod nodes;
 pub mod subgraphs;
 
 // How a node looks.
-#[derive(Drop)]
+#[derive(Clone, Copy)]
 pub enum Look {
     // a dummy that is not shown: nothing
     Hidden,

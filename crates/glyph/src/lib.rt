@@ -1,4 +1,6 @@
 // The width of a glyph, the rule of the ranges that give it, and the part of a label that fits.
+#![tactic(auto)]
+
 ghost use Rattle.std.specs.Prelude.{◌≡◌, ◌+◌, ◌*◌, ◌/◌, ◌≤◌, ◌<◌, length, get_or};
 ghost use Rattle.glyph.specs.Width.{width_of, first_of, last_of, range_width, range_count, as_width};
 ghost use Rattle.glyph.specs.Ranges.{holds, holds_fixed, not_above, range_broken, first_broken};
@@ -7,7 +9,7 @@ ghost use Rattle.glyph.specs.Fitting.{fit_count, fit_prefix};
 use ground::Found;
 
 // One width range: the values from first to last have this width.
-#[derive(Drop)]
+#[derive(Clone, Copy)]
 pub struct Range {
     // the least value that it holds
     pub first: u32,

@@ -1,4 +1,6 @@
 // Whose label a glyph of the glyph table belongs to, and which glyph of that label it is. Takes any words.
+#![tactic(auto)]
+
 ghost use Rattle.std.specs.Prelude.{◌≡◌, ◌<◌};
 ghost use Rattle.layout.specs.Small.{Small, AllSmall};
 ghost use Rattle.layout.specs.Tables.{tables_of};
@@ -9,7 +11,7 @@ use image::{EdgeLabel, ElementKind, Span};
 use layout::{Table, Tables};
 
 // Whose label a glyph belongs to.
-#[derive(Drop)]
+#[derive(Clone, Copy)]
 pub enum GlyphOwner {
     // no label holds it
     None,

@@ -1,9 +1,11 @@
 // What every layer shares: a word as an index, the lesser and the greater of two, and a place that was found.
+#![tactic(auto)]
+
 ghost use Rattle.std.specs.Prelude.{◌≡◌, not, ◌-◌, ◌<◌, min, max};
 ghost use Rattle.ground.specs.First.{or_else, found_if};
 
 // A place where something was found, or that nothing was.
-#[derive(Drop)]
+#[derive(Clone, Copy)]
 pub enum Found {
     // nothing was found
     None,

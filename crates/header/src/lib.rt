@@ -1,4 +1,6 @@
 // Code 2, the header's words; and how words are looked at in turn.
+#![tactic(auto)]
+
 ghost use Rattle.std.specs.Prelude.{◌≡◌, ◌+◌, ◌≤◌, ◌<◌, length};
 ghost use Rattle.ground.specs.Judged.{first_bad};
 ghost use Rattle.layout.specs.Layout.{header_nodes, header_size};

@@ -1,4 +1,6 @@
 // Words as text: "each cell eight upper-case hex digits, single-spaced"; and bytes, two digits each.
+#![tactic(auto)]
+
 ghost use Rattle.std.specs.Prelude.{◌≡◌, ◌∷◌, ◌++◌, ◌+◌, ◌*◌, ◌≤◌, ◌<◌, length, take, drop};
 ghost use Rattle.hexrow.specs.Hex.{digit, hex_digits, spelled, words_with_room, byte_digits, spelled_bytes, bytes_with_room};
 

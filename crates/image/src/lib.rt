@@ -1,5 +1,7 @@
 // The sheet image's records by value, and parts of its tables as slices. Every reader takes any words: a word past the end reads 0, and a span that leaves
 // its table is the empty part.
+#![tactic(auto)]
+
 ghost use Rattle.std.specs.Prelude.{◌≡◌, ◌+◌, ◌*◌, ◌/◌, ◌≤◌, ◌<◌, length};
 ghost use Rattle.layout.specs.Layout.{point_size, element_kinds};
 ghost use Rattle.layout.specs.Tables.{bits, flag};
@@ -14,7 +16,7 @@ use cell::Weight;
 use layout::{Table, bits, field, flag};
 
 // When a placed label is painted.
-#[derive(Drop)]
+#[derive(Clone, Copy)]
 pub enum LabelPolicy {
     // where it is placeable
     Geometric,
@@ -23,7 +25,7 @@ pub enum LabelPolicy {
 }
 
 // What the header says of the sheet.
-#[derive(Drop)]
+#[derive(Clone, Copy)]
 pub struct Header {
     // columns of the sheet
     pub width: u32,
@@ -38,7 +40,7 @@ pub struct Header {
 }
 
 // Four words of a record that follow one another.
-#[derive(Drop)]
+#[derive(Clone, Copy)]
 struct Four {
     // the word at the offset
     first: u32,
@@ -103,7 +105,7 @@ pub fn header_of(image: &[u32]) -> Header
 }
 
 // A part of a table.
-#[derive(Drop)]
+#[derive(Clone, Copy)]
 pub struct Span {
     // the first of its records
     pub start: u32,
@@ -112,7 +114,7 @@ pub struct Span {
 }
 
 // Where a part of the image begins and ends.
-#[derive(Drop)]
+#[derive(Clone, Copy)]
 struct Bounds {
     // its first word
     first: usize,
@@ -151,7 +153,7 @@ pub fn span_words(image: &[u32], table: Table, span: Span) -> &[u32]
 }
 
 // How a node looks.
-#[derive(Drop)]
+#[derive(Clone, Copy)]
 pub enum NodeKind {
     // its label in brackets
     Simple,
@@ -164,7 +166,7 @@ pub enum NodeKind {
 }
 
 // Whether a node has an edge to itself.
-#[derive(Drop)]
+#[derive(Clone, Copy)]
 pub enum SelfLoop {
     // it has none
     None,
@@ -173,7 +175,7 @@ pub enum SelfLoop {
 }
 
 // A node of the diagram: a gear stage.
-#[derive(Drop)]
+#[derive(Clone, Copy)]
 pub struct Node {
     // left column
     pub x: u32,
@@ -236,7 +238,7 @@ pub fn node_at(image: &[u32], nodes: Table, k: usize) -> Node
 }
 
 // How an edge gets from its source to its target.
-#[derive(Drop)]
+#[derive(Clone, Copy)]
 pub enum Path {
     // straight
     Direct,
@@ -265,7 +267,7 @@ pub enum Path {
 }
 
 // Along which axis an edge flows.
-#[derive(Drop)]
+#[derive(Clone, Copy)]
 pub enum FlowAxis {
     // from row to row
     Y,
@@ -274,7 +276,7 @@ pub enum FlowAxis {
 }
 
 // An edge's label, which a placed label shows.
-#[derive(Drop)]
+#[derive(Clone, Copy)]
 pub enum EdgeLabel {
     // it has none
     None,
@@ -283,7 +285,7 @@ pub enum EdgeLabel {
 }
 
 // An edge of the diagram.
-#[derive(Drop)]
+#[derive(Clone, Copy)]
 pub struct Edge {
     // the column of its source
     pub from_x: u32,
@@ -314,7 +316,7 @@ pub struct Edge {
 }
 
 // What an edge's flags say beside its path and its label.
-#[derive(Drop)]
+#[derive(Clone, Copy)]
 struct Style {
     // along which axis it flows
     flow_axis: FlowAxis,
@@ -415,7 +417,7 @@ pub fn edge_at(image: &[u32], edges: Table, k: usize) -> Edge
 }
 
 // Where in a subgraph its label stands.
-#[derive(Drop)]
+#[derive(Clone, Copy)]
 pub enum LabelPosition {
     // on the row below its upper border
     InsideTop,
@@ -424,7 +426,7 @@ pub enum LabelPosition {
 }
 
 // A border round part of the diagram, with a label.
-#[derive(Drop)]
+#[derive(Clone, Copy)]
 pub struct Subgraph {
     // left column
     pub x: u32,
@@ -478,7 +480,7 @@ pub fn subgraph_at(image: &[u32], subgraphs: Table, k: usize) -> Subgraph
 }
 
 // Where the planner has put an edge's label.
-#[derive(Drop)]
+#[derive(Clone, Copy)]
 pub struct PlacedLabel {
     // whose label it is, by index
     pub edge: u32,
@@ -508,7 +510,7 @@ pub fn placed_label_at(image: &[u32], labels: Table, k: usize) -> PlacedLabel
 }
 
 // What an element lists.
-#[derive(Drop)]
+#[derive(Clone, Copy)]
 pub enum ElementKind {
     // a node
     Node,
@@ -519,7 +521,7 @@ pub enum ElementKind {
 }
 
 // The planner's listing of one thing: the rows that it may touch.
-#[derive(Drop)]
+#[derive(Clone, Copy)]
 pub struct Element {
     // what kind of thing it lists
     pub kind: ElementKind,
@@ -605,7 +607,7 @@ pub fn table_words(image: &[u32], table: Table) -> &[u32]
 }
 
 // A point of a path.
-#[derive(Drop)]
+#[derive(Clone, Copy)]
 pub struct Point {
     // its column
     pub x: u32,

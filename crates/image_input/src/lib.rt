@@ -1,4 +1,6 @@
 // An image on standard input: words of four bytes each, the most significant first.
+#![tactic(auto)]
+
 ghost use Rattle.std.specs.Prelude.{◌<◌, length};
 ghost use Rattle.image_input.specs.Came.{Came};
 
@@ -17,7 +19,7 @@ pub const MOST_WORDS: usize = layout::HEADER_SIZE
     + layout::MAX_RANGES as usize * layout::RANGE_SIZE;
 
 // What came of reading.
-#[derive(Drop)]
+#[derive(Clone, Copy)]
 pub enum Image {
     // so many words stand at the start of the lent ones
     Words(usize),

@@ -1,11 +1,13 @@
 // Standard input, read to its end. An input that cannot be read is told apart from one that is empty.
+#![tactic(auto)]
+
 ghost use Rattle.std.specs.Prelude.{◌+◌, ◌≤◌, length};
 ghost use Rattle.input.specs.Within.{Within};
 
 use libc::STDIN_FILENO;
 
 // What came of reading.
-#[derive(Drop)]
+#[derive(Clone, Copy)]
 pub enum Input {
     // so many bytes stand at the start of the lent ones; where that is all of them, the input may go on
     Bytes(usize),
@@ -14,7 +16,7 @@ pub enum Input {
 }
 
 // What one read brought.
-#[derive(Drop)]
+#[derive(Clone, Copy)]
 struct Read {
     // whether the system refused
     failed: bool,

@@ -1,5 +1,7 @@
 // The layout of a sheet image: its numbers by name, its words, where its tables stand, and which field stands at a place. Every reader but `word_inside`
 // and `field_inside` takes any words: a word past the end reads 0.
+#![tactic(auto)]
+
 ghost use Rattle.std.specs.Prelude.{◌≡◌, ◌+◌, ◌*◌, ◌≤◌, ◌<◌, length};
 ghost use Rattle.layout.specs.Tables.{word, bits, flag, table_end, tables_of, record_at, place_of, field};
 ghost use Rattle.layout.specs.Fields.{table_of, field_in, field_in_or, field_past_labels, field_at};
@@ -277,7 +279,7 @@ pub fn flag(flags: u32, bit: u32) -> bool
 }
 
 // A table: records of one size, side by side.
-#[derive(Drop)]
+#[derive(Clone, Copy)]
 pub struct Table {
     // the place of its first word
     pub start: usize,
@@ -288,7 +290,7 @@ pub struct Table {
 }
 
 // The eight tables, in the order in which they stand.
-#[derive(Drop)]
+#[derive(Clone, Copy)]
 pub struct Tables {
     // what edges join
     pub nodes: Table,
@@ -393,7 +395,7 @@ pub fn field_inside(image: &[u32], table: Table, k: usize, offset: usize) -> u32
 }
 
 // What a table holds.
-#[derive(Drop)]
+#[derive(Clone, Copy)]
 pub enum RecordKind {
     // a node
     Node,
@@ -430,7 +432,7 @@ pub fn table_of(kind: RecordKind, ts: Tables) -> Table
 }
 
 // What stands at a place of an image.
-#[derive(Drop)]
+#[derive(Clone, Copy)]
 pub enum FieldName {
     // a word of the header
     Header(usize),

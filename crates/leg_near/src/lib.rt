@@ -1,4 +1,6 @@
 // A leg of a MultiSegment that lies off a window of rows, found by its two ends alone: none of its pieces need be made to pass it over.
+#![tactic(auto)]
+
 ghost use Rattle.std.specs.Prelude.{◌+◌, ◌≤◌, false, ◌≡◌};
 ghost use Rattle.image.specs.declared.Edge.{Edge};
 ghost use Rattle.flow.specs.Bounds.{SmallLeg};

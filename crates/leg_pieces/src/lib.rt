@@ -1,4 +1,6 @@
 // The two pieces of a leg of an Orthogonal path: the bend at its start, and its interior.
+#![tactic(auto)]
+
 ghost use Rattle.std.specs.Prelude.{◌≡◌};
 ghost use Rattle.orthogonal.specs.Orthogonal.{head_on_column, head_on_row, column_line, row_line, leg_line, only_arm, bend_arms, mark_or, bend_piece, leg_bend_piece};
 

@@ -1,4 +1,6 @@
 // Codes 11 and 12: a band that leaves the sheet, and a lent buffer that is short.
+#![tactic(auto)]
+
 ghost use Rattle.std.specs.Prelude.{◌≡◌, false, not, [], ◌∷◌, ◌+◌, ◌<◌, leb, length};
 ghost use Rattle.refusals.specs.FirstBroken.{rule, first_broken};
 ghost use Rattle.picture.specs.Picture.{height};

@@ -1,5 +1,7 @@
 // Lines with at most two arrows, down a column and along a row of a window. A line is clipped to the window before its loop, so that what lies outside costs
 // nothing.
+#![tactic(auto)]
+
 ghost use Rattle.std.specs.Prelude.{◌≡◌, ◌-◌, ◌≤◌};
 ghost use Rattle.window.specs.Writes.{tinted, ink_on, paint_on};
 ghost use Rattle.window.specs.Window.{on_row, ink_window, plane_of, canvas_of, Ready};

@@ -1,4 +1,6 @@
 // Code 9, each thing's listing being in its slot, and the run count: one loop for each kind of thing.
+#![tactic(auto)]
+
 ghost use Rattle.std.specs.Prelude.{◌≡◌, ◌<◌};
 ghost use Rattle.ground.specs.Judged.{first_bad};
 ghost use Rattle.layout.specs.Small.{AllSmall};
@@ -88,7 +90,7 @@ fn unlisted_subgraph(image: &[u32], ts: Tables, slots: &[u32]) -> Found
 }
 
 // What a walk over things comes to.
-#[derive(Drop)]
+#[derive(Clone, Copy)]
 pub struct Walk {
     // the first thing that touches a row which its listing lacks
     pub found: Found,

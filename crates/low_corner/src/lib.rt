@@ -1,4 +1,6 @@
 // Code 6: which leg of a MultiSegment has a corner below 0, and where that lies.
+#![tactic(auto)]
+
 ghost use Rattle.std.specs.Prelude.{◌≡◌, ◌<◌, ◌≤◌};
 ghost use Rattle.layout.specs.Tables.{tables_of};
 ghost use Rattle.image.specs.Records.{edge_at};
@@ -13,7 +15,7 @@ use image::{Edge, FlowAxis, Path};
 use orthogonal::points::path_point;
 
 // The first corner of an edge that lies below 0.
-#[derive(Drop)]
+#[derive(Clone, Copy)]
 pub enum LowCorner {
     // there is none
     None,

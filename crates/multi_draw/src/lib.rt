@@ -1,4 +1,6 @@
 // The legs of a MultiSegment, drawn in a window of rows. Each function answers how many runs are kept now.
+#![tactic(auto)]
+
 ghost use Rattle.std.specs.Prelude.{◌≡◌};
 ghost use Rattle.flow.specs.Bounds.{SmallLeg};
 ghost use Rattle.path.specs.Pieces.{leg_on, multi_pieces};

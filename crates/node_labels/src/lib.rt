@@ -1,4 +1,6 @@
 // A node's label painted in a window of rows: in a box, or between brackets.
+#![tactic(auto)]
+
 ghost use Rattle.std.specs.Prelude.{◌≡◌, ◌≤◌, length};
 ghost use Rattle.window.specs.Writes.{tinted};
 ghost use Rattle.window.specs.Window.{ink_window, canvas_of, Ready};

@@ -1,4 +1,6 @@
 // Nodes painted in a window of rows: a dummy's marker, a node with its label, and the self-loop marker.
+#![tactic(auto)]
+
 ghost use Rattle.std.specs.Prelude.{◌≡◌, ◌≤◌, length};
 ghost use Rattle.window.specs.Writes.{tinted};
 ghost use Rattle.window.specs.Window.{ink_window, canvas_of, Ready};

@@ -1,5 +1,7 @@
 // The stages of placed labels and of nodes. Each group goes by index; of placed labels those are passed over whose row the window lacks, and of nodes those
 // that no element lists with rows of the window.
+#![tactic(auto)]
+
 ghost use Rattle.std.specs.Prelude.{◌≡◌, ◌<◌};
 ghost use Rattle.layout.specs.Small.{AllSmall};
 ghost use Rattle.image.specs.Records.{placed_label_at};

@@ -1,4 +1,6 @@
 // "Orthogonal, both axes": a path through points, and its legs, handed back one by one.
+#![tactic(auto)]
+
 use cell::Dir;
 use image::Point;
 
@@ -6,7 +8,7 @@ pub mod points;
 pub mod walk;
 
 // An arrow of an Orthogonal path.
-#[derive(Drop)]
+#[derive(Clone, Copy)]
 pub enum EndMark {
     // no arrow
     None,
@@ -15,7 +17,7 @@ pub enum EndMark {
 }
 
 // The two arrows of an Orthogonal path.
-#[derive(Drop)]
+#[derive(Clone, Copy)]
 pub struct EndMarks {
     // the arrow at the source's end
     pub source: EndMark,
@@ -24,7 +26,7 @@ pub struct EndMarks {
 }
 
 // A stop of an Orthogonal path: a point that differs from the stop before it.
-#[derive(Drop)]
+#[derive(Clone, Copy)]
 pub enum Stop {
     // the stop, and the number of the point after it
     At { point: Point, next: usize },
@@ -33,7 +35,7 @@ pub enum Stop {
 }
 
 // A leg of an Orthogonal path.
-#[derive(Drop)]
+#[derive(Clone, Copy)]
 pub struct PathLeg {
     // the stop before the leg's start (on the first leg its start)
     pub before: Point,
@@ -48,7 +50,7 @@ pub struct PathLeg {
 }
 
 // Where a walk along an Orthogonal path stands.
-#[derive(Drop)]
+#[derive(Clone, Copy)]
 pub struct Cursor {
     // the stop from which it came (at the source the source itself)
     pub before: Point,
@@ -61,7 +63,7 @@ pub struct Cursor {
 }
 
 // "a step that hands back the next leg by value"
-#[derive(Drop)]
+#[derive(Clone, Copy)]
 pub enum Step {
     // the next leg, and the cursor past it
     Leg(PathLeg, Cursor),

@@ -1,4 +1,6 @@
 // "Orthogonal, both axes": the bend and the interior of each leg, drawn leg by leg. It makes no runs.
+#![tactic(auto)]
+
 ghost use Rattle.std.specs.Prelude.{◌≡◌};
 ghost use Rattle.orthogonal.specs.Orthogonal.{leg_pieces, orthogonal_pieces};
 ghost use Rattle.window.specs.Window.{canvas_of, Ready};

@@ -1,4 +1,6 @@
 // The rows that an Orthogonal path touches. Its arrows do not matter for them, so none is made, and each point is read once.
+#![tactic(auto)]
+
 ghost use Rattle.std.specs.Prelude.{◌≡◌};
 ghost use Rattle.flow.specs.Reach.{reach_of};
 ghost use Rattle.orthogonal.specs.Orthogonal.{orthogonal_pieces};
@@ -10,7 +12,7 @@ use orthogonal::points;
 use rows::{Rows, Window};
 
 // How far a look along the points of an Orthogonal path has come, for its rows alone.
-#[derive(Drop)]
+#[derive(Clone, Copy)]
 pub struct Passed {
     // the last stop
     pub stop: Point,

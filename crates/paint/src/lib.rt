@@ -1,4 +1,6 @@
 // The public calls of painting: a band of any image, plain or coloured. Every image, row number and lent length is answered; a refusal changes no word of any lent buffer.
+#![tactic(auto)]
+
 ghost use Rattle.std.specs.Prelude.{◌≡◌};
 ghost use Rattle.refusals.specs.FirstBroken.{first_broken};
 ghost use Rattle.refusals.specs.Rules.{rules};
@@ -10,7 +12,7 @@ use refusals::Verdict;
 pub mod accepted;
 
 // "Check and paint answer a code and a place".
-#[derive(Drop)]
+#[derive(Clone, Copy)]
 pub struct Outcome {
     // 0 where the band was painted, else the code of the first rule that is broken
     pub code: u32,

@@ -16,6 +16,8 @@
 // bytes are two digits each, and its checksum goes over bytes.
 // A request over a limit, or with another flag, or for the whole sheet as text or from another row than 0, or with a word 11 that is not 0, or with bytes of output where no text is asked for, and a
 // stream that breaks off inside a request, end the answers with `unread`.
+#![tactic(auto)]
+
 ghost use Rattle.std.specs.Prelude.{◌*◌, ◌≤◌, length};
 ghost use Rattle.paintlines.specs.Request.{HasRoom, Fitting, Planes, Buffers};
 
@@ -41,7 +43,7 @@ const HEAD_WORDS: usize = 12;
 const MOST_FLAGS: u32 = 11;
 
 // What is asked of painting.
-#[derive(Drop)]
+#[derive(Clone, Copy)]
 struct Request {
     // words of the image
     words: usize,
@@ -70,7 +72,7 @@ struct Request {
 }
 
 // What stands next on the stream.
-#[derive(Drop)]
+#[derive(Clone, Copy)]
 enum Next {
     // a request within the limits
     Asked(Request),

@@ -1,5 +1,7 @@
 // A whole sheet of any image, plain or coloured, in bands of a stated height: checked once, with one sweep. Every image, band height and lent length is answered; a refusal
 // changes no word of any lent buffer.
+#![tactic(auto)]
+
 ghost use Rattle.std.specs.Prelude.{◌≡◌, [], ◌∷◌, ◌++◌, ◌≤◌, ◌<◌, length, drop, replicate};
 ghost use Rattle.refusals.specs.FirstBroken.{rule, first_broken};
 ghost use Rattle.refusals.specs.Rules.{rules};

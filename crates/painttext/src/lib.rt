@@ -1,5 +1,7 @@
 // A band of any image, painted and written as text in UTF-8, plain or coloured. Every image, row number and lent length is answered; a refusal changes no word and no byte of any
 // lent buffer.
+#![tactic(auto)]
+
 ghost use Rattle.std.specs.Prelude.{◌≡◌, ◌≤◌};
 ghost use Rattle.refusals.specs.FirstBroken.{first_broken};
 ghost use Rattle.rowtext.specs.Text.{text_room};
@@ -13,7 +15,7 @@ use refusals::Verdict;
 pub const TOO_LITTLE_OUTPUT: u32 = 20;
 
 // What the calls for text answer.
-#[derive(Drop)]
+#[derive(Clone, Copy)]
 pub struct Written {
     // 0 where the band was written, else the code of the first rule that is broken
     pub code: u32,

@@ -1,4 +1,6 @@
 // The pieces of an edge, drawn in a window of rows. Where a function lends the scratch it answers how many runs are kept now.
+#![tactic(auto)]
+
 ghost use Rattle.std.specs.Prelude.{◌≡◌};
 ghost use Rattle.window.specs.Window.{canvas_of, Ready};
 ghost use Rattle.path.specs.Pieces.{direct_on, corner_on, side_on, pieces};

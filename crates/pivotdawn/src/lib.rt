@@ -1,4 +1,6 @@
 // Pivotdawn for C and Rust to link: its seven public calls, with numbers and slices alone. In C a slice is a pointer and a length; `include/pivotdawn.h` declares all seven.
+#![tactic(auto)]
+
 ghost use Rattle.std.specs.Prelude.{◌≡◌, set};
 ghost use Rattle.refusals.specs.Rules.{checked};
 ghost use Rattle.picture.specs.Painted.{painted, painted_coloured};

@@ -1,4 +1,6 @@
 // Code 4: the words of one record in turn, for every kind but the edge. Each function is told where the record begins and what the tables that it refers to hold.
+#![tactic(auto)]
+
 ghost use Rattle.std.specs.Prelude.{◌≡◌, ◌+◌, ◌≤◌, ◌<◌, ltb, length};
 ghost use Rattle.ground.specs.Judged.{first_bad, judged_words};
 ghost use Rattle.layout.specs.Layout.{node_loop_x, element_kind, element_index};

@@ -1,4 +1,6 @@
 // The check: codes 1 to 10 of document 01's "Refusals in order" and code 13, which stands between 5 and 6, with place and run count, for every slice of words.
+#![tactic(auto)]
+
 ghost use Rattle.std.specs.Prelude.{◌≡◌};
 ghost use Rattle.ground.specs.Judged.{first_bad};
 ghost use Rattle.layout.specs.Inside.{AllInside};
@@ -47,7 +49,7 @@ pub const NOT_LISTED: u32 = 9;
 pub const TOO_MANY_RUNS: u32 = 10;
 
 // What rules in order come to.
-#[derive(Drop)]
+#[derive(Clone, Copy)]
 pub enum Verdict {
     // none is broken
     Passed,
@@ -61,7 +63,7 @@ pub enum Verdict {
 }
 
 // "Check and paint answer a code and a place; check adds the run count, 0 on refusal."
-#[derive(Drop)]
+#[derive(Clone, Copy)]
 pub struct Answer {
     // 0 for an accepted image, else the code of the first rule that is broken
     pub code: u32,

@@ -1,10 +1,12 @@
 // A window of rows by value, and rows of it, from a first to a last, or none.
+#![tactic(auto)]
+
 ghost use Rattle.std.specs.Prelude.{◌≡◌};
 ghost use Rattle.rows.specs.Window.{join_rows, in_window};
 ghost use Rattle.rows.specs.Computed.{window_rows, rows_within};
 
 // Rows of the sheet, side by side: all of them, or a band.
-#[derive(Drop)]
+#[derive(Clone, Copy)]
 pub struct Window {
     // how many columns each row has
     pub width: usize,
@@ -15,7 +17,7 @@ pub struct Window {
 }
 
 // Rows of a window.
-#[derive(Drop)]
+#[derive(Clone, Copy)]
 pub enum Rows {
     // no row
     None,

@@ -1,4 +1,6 @@
 // A band's cells as text in UTF-8: plain, or with an ECMA-48 sequence wherever the colour changes. One writer serves both: without colours every cell has colour 0, and no sequence is written.
+#![tactic(auto)]
+
 ghost use Rattle.std.specs.Prelude.{◌≡◌, [], ◌+◌, ◌*◌, ◌≤◌, ◌<◌, length, take, drop};
 ghost use Rattle.cell.specs.OneCell.{read};
 ghost use Rattle.shapes.specs.Shapes.{stroke_table, shape_of};
@@ -9,7 +11,7 @@ use layout::word;
 use shapes::Shape;
 
 // Where a text is written on, and the colour in force there.
-#[derive(Drop)]
+#[derive(Clone, Copy)]
 struct Pen {
     // the place of the next byte
     at: usize,

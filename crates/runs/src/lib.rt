@@ -1,4 +1,6 @@
 // Runs: kept in the lent scratch while edges are painted, and put into a row afterwards.
+#![tactic(auto)]
+
 ghost use Rattle.std.specs.Prelude.{◌≡◌, [], ◌∷◌, ◌+◌, ◌*◌, ◌≤◌, ◌<◌, min, length};
 ghost use Rattle.runs.specs.Kept.{run_size, field_at, run_at, row_at, link_at, keep, run_room, Kept};
 
@@ -6,7 +8,7 @@ pub mod cover;
 pub mod owners;
 
 // A run that waits.
-#[derive(Drop)]
+#[derive(Clone, Copy)]
 pub struct Run {
     // its row
     pub row: u32,
@@ -23,7 +25,7 @@ pub struct Run {
 }
 
 // Columns of a row, from low to just before high; none where high is not above low.
-#[derive(Drop)]
+#[derive(Clone, Copy)]
 pub struct Columns {
     // the first
     pub low: usize,

@@ -1,4 +1,6 @@
 // Which things a band may show, by the element list: "each call selects afresh".
+#![tactic(auto)]
+
 ghost use Rattle.std.specs.Prelude.{◌≡◌, ◌+◌, ◌<◌, set};
 ghost use Rattle.layout.specs.Layout.{element_size};
 ghost use Rattle.layout.specs.Inside.{Inside};

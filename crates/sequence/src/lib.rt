@@ -1,4 +1,6 @@
 // The ECMA-48 sequence of a colour.
+#![tactic(auto)]
+
 ghost use Rattle.std.specs.Prelude.{◌≡◌, ◌+◌, ◌≤◌, ◌<◌, length};
 ghost use Rattle.utf8.specs.Utf8.{written_at};
 ghost use Rattle.sequence.specs.Sequence.{decimal, numeral, red_green_blue, sequence};

@@ -1,4 +1,6 @@
 // What a cell is written as: a stroke by a table over its four arms, a marker by its kind and direction.
+#![tactic(auto)]
+
 ghost use Rattle.std.specs.Prelude.{◌≡◌, ◌<◌};
 ghost use Rattle.cell.specs.OneCell.{read};
 ghost use Rattle.shapes.specs.Shapes.{arms_number, stroke_shape, stroke_table, marker_shape, shape_of};
@@ -6,7 +8,7 @@ ghost use Rattle.shapes.specs.Shapes.{arms_number, stroke_shape, stroke_table, m
 use cell::{Arms, Dir, MarkerKind, Parts};
 
 // What a cell is written as.
-#[derive(Drop)]
+#[derive(Clone, Copy)]
 pub enum Shape {
     // no character: the second column of a wide glyph
     Nothing,

@@ -1,6 +1,8 @@
 // Prints the cells of one sheet. An image of at most 16,384 words is read from standard input; a line with width, height and run count is printed, then a line for
 // each row. What the check refuses, and a scratch of 16,384 words that does not do, is printed with code and place; an input that is longer, ends inside a
 // word or cannot be read, as `unread`. A sheet is painted whole, by one call, where its cells and the scratch of that call have room, else in bands.
+#![tactic(auto)]
+
 ghost use Rattle.std.specs.Prelude.{◌≡◌, ◌+◌, ◌*◌, ◌≤◌, ◌<◌, length};
 ghost use Rattle.refusals.specs.Accepted.{Keeps};
 ghost use Rattle.picture.specs.Picture as picture;

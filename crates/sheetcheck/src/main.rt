@@ -1,4 +1,6 @@
 // Reads a sheet image from standard input and says whether it is accepted, or what is wrong, where, and what to change, in words that a planner's author can act on.
+#![tactic(auto)]
+
 ghost use Rattle.std.specs.Prelude.{◌<◌, ◌≤◌};
 
 use finding::element;

@@ -1,5 +1,7 @@
 // A sheet image that is being written. In a draft each table stands where it would if every table before it were full, and the header holds its count: a
 // record that is added moves none. What is handed out is the draft with its tables closed up.
+#![tactic(auto)]
+
 ghost use Rattle.std.specs.Prelude.{◌<◌, ◌≤◌};
 ghost use Rattle.layout.specs.Small.{Small};
 
@@ -117,7 +119,7 @@ pub fn count(draft: &[u32], kind: RecordKind) -> u32 {
 }
 
 // Where the words of a new record stand, or that there are as many as there may be.
-#[derive(Drop)]
+#[derive(Clone, Copy)]
 pub enum Room {
     // where its first word stands
     At(usize),

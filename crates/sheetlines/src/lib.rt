@@ -1,4 +1,6 @@
 // The lines of a sheet's text: a record each, with its fields in any order.
+#![tactic(auto)]
+
 use ground::Found;
 use layout::{RecordKind, word};
 use sheetdraft::Room;
@@ -175,7 +177,7 @@ fn read_line(line: &[u8], draft: &mut [u32]) -> Step {
 }
 
 // What came of reading a text.
-#[derive(Drop)]
+#[derive(Clone, Copy)]
 pub enum Outcome {
     // every line was read
     Read,

@@ -1,6 +1,8 @@
 // Writes a sheet image. A text with a record on each line is read from standard input, and the image's words are written to standard output, four bytes
 // each, the most significant first. Where a line cannot be read nothing is written there: which line, what stands there and what was expected is said on
 // standard error. The text's form is in docs/SHEETMAKE.md.
+#![tactic(auto)]
+
 use input::Input;
 use layout::word;
 use libc::STDOUT_FILENO;

@@ -1,6 +1,8 @@
 // Shows one sheet. An image is read from standard input, and its rows are written as text in UTF-8; with the argument --colour, with the sequences of ECMA-48 that set its
 // colours. What the check refuses is said with code and place; an input that is longer than an image may be, ends inside a word or cannot be read, as `unread`. With any other
 // argument nothing is read, and the way to call the program is said. A sheet is painted whole, by one call, where its cells have room, else in bands.
+#![tactic(auto)]
+
 ghost use Rattle.std.specs.Prelude.{◌≡◌, ◌+◌, ◌*◌, ◌≤◌, length};
 ghost use Rattle.layout.specs.Layout.{max_width};
 ghost use Rattle.picture.specs.Picture as picture;
@@ -32,7 +34,7 @@ const SWEPT_ROWS: usize = 128;
 const BAND_BYTES: usize = BAND_ROWS * (23 * MAX_WIDTH as usize + 5);
 
 // The form of the text that the arguments ask for.
-#[derive(Drop)]
+#[derive(Clone, Copy)]
 enum Form {
     // no argument: the plain text
     Plain,

@@ -1,5 +1,7 @@
 // The leaves of a sheet's text: numbers, characters in UTF-8, and the escapes of a label. Every call takes any bytes: a byte past the end reads 255, which
 // no text in UTF-8 has.
+#![tactic(auto)]
+
 ghost use Rattle.std.specs.Prelude.{◌≡◌, ◌+◌, ◌*◌, ◌≤◌, ◌<◌, min, length, get_or};
 ghost use Rattle.sheettext.specs.Numbers.{digit_of, reading_of, read_digits, in_base, number_of};
 ghost use Rattle.sheettext.specs.Parts.{part, until};
@@ -38,7 +40,7 @@ pub fn until(byte: u8, text: &[u8]) -> usize
 }
 
 // What a word is as a number.
-#[derive(Drop)]
+#[derive(Clone, Copy)]
 pub enum Reading {
     // a number of 32 bits
     Value(u32),
@@ -141,7 +143,7 @@ pub fn number(word: &[u8]) -> Reading
 }
 
 // One character of a text.
-#[derive(Drop)]
+#[derive(Clone, Copy)]
 pub enum Decoded {
     // a Unicode scalar value, and how many bytes it stands in
     Glyph {

@@ -4,7 +4,7 @@ use sheetwords::names::{Choice, Record};
 use sheetwords::token::Token;
 
 // What was expected.
-#[derive(Drop)]
+#[derive(Clone, Copy)]
 pub enum Expected {
     // the name of a record
     RecordName,
@@ -41,7 +41,7 @@ pub enum Expected {
 }
 
 // What is wrong on a line.
-#[derive(Drop)]
+#[derive(Clone, Copy)]
 pub struct Fault {
     // what was expected
     pub expected: Expected,
@@ -54,7 +54,7 @@ pub struct Fault {
 }
 
 // How far a line is read.
-#[derive(Drop)]
+#[derive(Clone, Copy)]
 pub enum Step {
     // to this place
     At(usize),

@@ -14,7 +14,7 @@ pub const SHEET_READ: usize = sheetdraft::MOST_WORDS + 2;
 pub const DRAFT_WORDS: usize = sheetdraft::MOST_WORDS + 3;
 
 // What stands behind a field's name.
-#[derive(Drop)]
+#[derive(Clone, Copy)]
 pub enum Shape {
     // as many numbers as the field has words
     Numbers,
@@ -33,7 +33,7 @@ pub enum Shape {
 }
 
 // A field of a record.
-#[derive(Drop)]
+#[derive(Clone, Copy)]
 pub struct Field {
     // what stands behind its name
     pub shape: Shape,

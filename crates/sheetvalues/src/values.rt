@@ -11,7 +11,7 @@ use sheetwords::{names, token};
 use std::num::wrapping_add_usize;
 
 // A number that was read.
-#[derive(Drop)]
+#[derive(Clone, Copy)]
 enum Got {
     // the number, and the place behind it
     Value {
@@ -176,7 +176,7 @@ fn read_label(line: &[u8], name: Token, field: Field, draft: &mut [u32], record:
 }
 
 // A point that was read.
-#[derive(Drop)]
+#[derive(Clone, Copy)]
 enum Spot {
     // its numbers
     At {

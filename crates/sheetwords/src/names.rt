@@ -5,7 +5,7 @@ use layout::RecordKind;
 use sheettext::{byte_at, part};
 
 // What a line gives.
-#[derive(Drop)]
+#[derive(Clone, Copy)]
 pub enum Record {
     // the header
     Sheet,
@@ -14,7 +14,7 @@ pub enum Record {
 }
 
 // A field that holds one word of a few.
-#[derive(Drop)]
+#[derive(Clone, Copy)]
 pub enum Choice {
     // a node's kind
     NodeKind,

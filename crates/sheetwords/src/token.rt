@@ -3,7 +3,7 @@ ghost use Rattle.std.specs.Prelude.{◌≤◌, length};
 
 use sheettext::byte_at;
 
-#[derive(Drop)]
+#[derive(Clone, Copy)]
 pub enum Kind {
     // bytes with no space, quote or number sign among them
     Word,
@@ -16,7 +16,7 @@ pub enum Kind {
 }
 
 // A thing on a line, from one place to another, its quotes among it.
-#[derive(Drop)]
+#[derive(Clone, Copy)]
 pub struct Token {
     // what it is
     pub kind: Kind,

@@ -1,4 +1,6 @@
 // What every stage of painting shares: whether a thing is marked, and which is the next that may be.
+#![tactic(auto)]
+
 ghost use Rattle.std.specs.Prelude.{◌≡◌, true, not, ℕ, ◌+◌, ◌≤◌, ◌<◌, eqb, length, get_or};
 ghost use Rattle.elements.specs.Slots.{slot_of};
 ghost use Rattle.stage.specs.Staged.{Unmarked};

@@ -1,4 +1,6 @@
 // The stages of subgraphs: their borders first of all, and their labels last. Each group goes by index, and passes over what no element lists with rows of the window.
+#![tactic(auto)]
+
 ghost use Rattle.std.specs.Prelude.{◌≡◌, ◌<◌};
 ghost use Rattle.window.specs.Window.{ink_window, canvas_of, Ready};
 ghost use Rattle.stage.specs.Staged.{Staged};

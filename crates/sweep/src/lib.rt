@@ -1,4 +1,6 @@
 // Which elements a band may show, carried from band to band: each is taken on once, when the bands reach its first row, and let go once they have passed its last.
+#![tactic(auto)]
+
 ghost use Rattle.std.specs.Prelude.{◌≡◌, cond, ◌++◌, ◌+◌, ◌≤◌, ◌<◌, leb, length, take, set};
 ghost use Rattle.layout.specs.Layout.{max_elements};
 ghost use Rattle.layout.specs.Small.{AllSmall};
@@ -10,7 +12,7 @@ ghost use Rattle.sweep.specs.Swept.{reaching, reaching_from, fronted, mark_each,
 use layout::{ELEMENT_INDEX, ELEMENT_KIND, Tables, field};
 
 // "the active elements, the cursor and the next row stand in a sweep record"
-#[derive(Drop)]
+#[derive(Clone, Copy)]
 pub struct Sweep {
     // how many elements were looked at
     pub cursor: usize,
@@ -21,7 +23,7 @@ pub struct Sweep {
 }
 
 // What stands in the record once elements were taken on.
-#[derive(Drop)]
+#[derive(Clone, Copy)]
 struct Taken {
     // how many elements were looked at
     cursor: usize,

@@ -1,4 +1,6 @@
 // Glyphs side by side in a row of a window: a whole stretch, or those before a closing column.
+#![tactic(auto)]
+
 ghost use Rattle.std.specs.Prelude.{◌≡◌, true, ◌+◌, ◌≤◌, length, take};
 ghost use Rattle.glyph.specs.Fitting.{columns_of};
 ghost use Rattle.rows.specs.Window.{in_window};

@@ -1,4 +1,6 @@
 // What each thing of an image touches of the sheet, and the run count.
+#![tactic(auto)]
+
 ghost use Rattle.std.specs.Prelude.{◌≡◌, ◌≤◌, ◌<◌};
 ghost use Rattle.layout.specs.Layout.{max_things};
 ghost use Rattle.layout.specs.Small.{AllSmall};

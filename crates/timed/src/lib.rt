@@ -1,4 +1,6 @@
 // The check and the painting of an accepted image apart, for C and Rust to time: numbers and slices alone.
+#![tactic(auto)]
+
 ghost use Rattle.std.specs.Prelude.{◌≡◌, ◌++◌, ◌+◌, ◌≤◌, length, drop, replicate};
 ghost use Rattle.refusals.specs.Accepted.{Keeps};
 ghost use Rattle.refusals.specs.Rules.{checked};

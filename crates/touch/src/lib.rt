@@ -1,4 +1,6 @@
 // What is reached in a window of rows with a row or a line more, and the runs that a piece makes there.
+#![tactic(auto)]
+
 ghost use Rattle.std.specs.Prelude.{◌≡◌, ◌≤◌};
 ghost use Rattle.flow.specs.Pieces.{piece_runs_in};
 ghost use Rattle.flow.specs.Reach.{row_if, vertical_rows, horizontal_rows, no_reach, with_rows};

@@ -1,4 +1,6 @@
 // A character in UTF-8.
+#![tactic(auto)]
+
 ghost use Rattle.std.specs.Prelude.{◌≡◌, ◌+◌, ◌≤◌, ◌<◌, length};
 ghost use Rattle.utf8.specs.Utf8.{utf8, written_at};
 

@@ -1,4 +1,6 @@
 // Writes into a window of rows, over planes that are lent: cells alone, or cells with colours and stamps.
+#![tactic(auto)]
+
 ghost use Rattle.std.specs.Prelude.{◌≡◌, true, [], ◌∷◌, ◌+◌, ◌*◌, ◌≤◌, ◌<◌};
 ghost use Rattle.glyph.specs.Width.{width_of};
 ghost use Rattle.rows.specs.Spots.{at, stroke, marker, glyph};
@@ -13,7 +15,7 @@ pub mod cells;
 pub mod fill;
 
 // Which planes are lent. What is written to a plane that is not lent vanishes.
-#[derive(Drop)]
+#[derive(Clone, Copy)]
 pub enum Lent {
     // the cells alone
     Cells,
@@ -22,7 +24,7 @@ pub enum Lent {
 }
 
 // What a write does to the words of its columns in a plane besides the cells.
-#[derive(Drop)]
+#[derive(Clone, Copy)]
 pub enum Paint {
     // they stay
     Keep,
@@ -31,7 +33,7 @@ pub enum Paint {
 }
 
 // The colour and the stamp of a write.
-#[derive(Drop)]
+#[derive(Clone, Copy)]
 pub struct Tint {
     // its colour
     pub colour: Paint,

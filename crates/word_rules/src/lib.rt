@@ -1,4 +1,6 @@
 // Code 4 for one word: what a word of a record may hold, with the numbers of this image that decide it, and which parts of an edge's flags break theirs.
+#![tactic(auto)]
+
 ghost use Rattle.std.specs.Prelude.{◌≡◌, ◌<◌};
 ghost use Rattle.layout.specs.Fields.{table_of};
 ghost use Rattle.layout.specs.Tables.{tables_of, record_at};
@@ -11,7 +13,7 @@ use image::ElementKind;
 use layout::{RecordKind, flag, word};
 
 // What a word of a record may hold.
-#[derive(Drop)]
+#[derive(Clone, Copy)]
 pub enum WordRule {
     // any number: a colour, or a count of which its start is told
     Any,
@@ -50,7 +52,7 @@ pub enum WordRule {
 }
 
 // The rules of an edge's a, b and c.
-#[derive(Drop)]
+#[derive(Clone, Copy)]
 pub struct PathRules {
     // a bend, a channel, a first point, or unused
     pub a: WordRule,
@@ -61,7 +63,7 @@ pub struct PathRules {
 }
 
 // Which parts of an edge's flags break their rule.
-#[derive(Drop)]
+#[derive(Clone, Copy)]
 pub struct FlagFaults {
     // the path is none of 0 to 5
     pub path: bool,

@@ -1,4 +1,6 @@
 // An image as a file: words of four bytes, most significant byte first.
+#![tactic(auto)]
+
 ghost use Rattle.std.specs.Prelude.{◌≡◌, ◌+◌, ◌*◌, ◌/◌, ◌≤◌, ◌<◌, min, length, get_or};
 ghost use Rattle.wordfile.specs.Words.{word_at, filled, byte_of, with_word, stored};
 

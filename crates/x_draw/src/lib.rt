@@ -1,4 +1,6 @@
 // "X flow": the pieces of an edge that flows right or left, drawn one after the other. It makes no runs.
+#![tactic(auto)]
+
 ghost use Rattle.std.specs.Prelude.{◌≡◌, [], ◌∷◌};
 ghost use Rattle.flow.specs.Bounds.{SmallBend, SmallLeg};
 ghost use Rattle.x_flow.specs.XFlow.{direct_x, cross_line_x, cross_first_x, cross_last_x, bent_x, corner_x, side_x, straight_x, leg_x};

@@ -1,6 +1,8 @@
 // "X flow": the pieces of an edge that flows right or left, one maker for each, and what they reach in a window of rows. It is written out and no mirror of Y:
 // "crossings are immediate strokes; the corner arrow needs bend = from x + s exactly; SideChannel has a source trunk and start arrow, its bend being span
 // start".
+#![tactic(auto)]
+
 ghost use Rattle.std.specs.Prelude.{◌≡◌, ◌<◌};
 ghost use Rattle.x_flow.specs.XFlow.{sign_x, with_x, against_x, direct_x, cross_line_x, cross_first_x, cross_last_x, corner_arrow_x};
 ghost use Rattle.x_flow.specs.XFlow.{trunk_x, own_start_x, tail_x, channel_line_x, straight_line_x, corner_column};

@@ -1,4 +1,6 @@
 // What the pieces of an X flow reach in a window of rows. Their arms and arrows do not matter for it, so that numbers are enough. They make no run.
+#![tactic(auto)]
+
 ghost use Rattle.std.specs.Prelude.{◌≡◌, ◌<◌};
 ghost use Rattle.x_flow.specs.XFlow.{direct_x, corner_x, side_x, leg_x};
 ghost use Rattle.x_reach.specs.Reach.{trunk_rows, crossing_rows, bent_reach, channel_reach};

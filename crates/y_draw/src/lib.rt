@@ -1,4 +1,6 @@
 // "Y flow": the pieces of an edge that flows down or up, each made and drawn in turn. Where a function lends the scratch it answers how many runs are kept now.
+#![tactic(auto)]
+
 ghost use Rattle.std.specs.Prelude.{◌≡◌, [], ◌∷◌, ◌<◌};
 ghost use Rattle.flow.specs.Bounds.{SmallBend, SmallLeg};
 ghost use Rattle.window.specs.Window.{canvas_of, Ready};

@@ -1,4 +1,6 @@
 // "Y flow": the pieces of an edge that flows down or up, one maker for each, and what they reach in a window of rows.
+#![tactic(auto)]
+
 ghost use Rattle.std.specs.Prelude.{◌≡◌, ◌<◌};
 ghost use Rattle.y_flow.specs.YFlow.{sign_y, with_y, against_y, direct_y, cross_run_y, cross_first_y, cross_last_y, corner_arrow_y};
 ghost use Rattle.y_flow.specs.YFlow.{trunk_y, own_start_y, tail_y, channel_line_y, straight_line_y, corner_row};

@@ -1,4 +1,6 @@
 // What the pieces of a Y flow reach in a window of rows. Their arms and arrows do not matter for it, so that numbers are enough.
+#![tactic(auto)]
+
 ghost use Rattle.std.specs.Prelude.{◌≡◌, ◌+◌, ◌≤◌, ◌<◌};
 ghost use Rattle.y_flow.specs.YFlow.{direct_y, corner_y, side_y, leg_y};
 ghost use Rattle.y_reach.specs.Reach.{trunk_rows, crossing_reach, bent_reach, channel_reach};
