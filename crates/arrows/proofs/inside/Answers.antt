@@ -1,0 +1,9 @@
+-- `inside` is one cell from a point toward another.
+use borrow.Author.Tests.{eq-eqb, ne_eqb}
+use Rattle.arrows.proofs.inside.Goals as goal
+
+pub returns-then-a-b : goal.returns-then-a-b
+returns-then-a-b c = rw (eq-eqb _ _ c.if-a-b.true, c.nearer.ensures)
+
+pub returns-else-a-b : goal.returns-else-a-b
+returns-else-a-b c = rw (ne_eqb _ _ c.if-a-b.false, c.nearer-else-a-b.ensures)

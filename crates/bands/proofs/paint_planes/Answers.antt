@@ -1,0 +1,19 @@
+-- `paint_planes` lends on a band's parts.
+use Rattle.bands.proofs.Laws.{planes_lent, planes_back}
+use Rattle.bands.proofs.paint_planes.Goals as goal
+
+pub paint_selected-requires : goal.paint_selected-requires
+paint_selected-requires c = (
+  c.requires.keeps.0,
+  c.requires.keeps.1,
+  c.requires.keeps.2,
+  c.requires.keeps.3,
+  c.requires.keeps.4,
+  planes_lent c.args.image.now c.args.top c.args.rows _ _ c.part_of-part.ensures.0 c.part_of-part.ensures.1 c.part_of-part.ensures.2 c.args.cells.now c.args.colours.now c.args.stamps.now c.args.scratch.now c.requires.cells_len.0 c.requires.cells_len.3 c.requires.cells_len.1 c.requires.cells_len.2,
+)
+
+pub returns-clause-with_band : goal.returns-clause-with_band
+returns-clause-with_band c = planes_back c.args.image.now c.args.top c.args.rows _ _ c.part_of-part.ensures.0 c.part_of-part.ensures.1 c.part_of-part.ensures.2 c.args.cells.now c.args.colours.now c.args.stamps.now c.args.scratch.now c.requires.cells_len.0 c.requires.cells_len.3 c.requires.cells_len.1 c.requires.cells_len.2 _ _ _ c.paint_selected.ensures.stamps_after
+
+pub returns-clause-scratch_len_unchanged : goal.returns-clause-scratch_len_unchanged
+returns-clause-scratch_len_unchanged c = c.paint_selected.ensures.scratch_len_unchanged

@@ -1,0 +1,13 @@
+-- `Arms::read` reads the four arms of any word.
+use Rattle.cell.specs.OneCell.{read_arms}
+use Rattle.cell.proofs.Arms.read.Goals as goal
+
+pub returns : goal.returns
+unfolding read_arms
+returns c =
+    rw (
+      c.from_bits.ensures,
+      c.from_bits-2.ensures,
+      c.from_bits-3.ensures,
+      c.from_bits-4.ensures,
+    )

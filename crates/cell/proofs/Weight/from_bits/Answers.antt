@@ -1,0 +1,11 @@
+-- `Weight::from_bits` gives the weight that a number stands for.
+use Rattle.cell.proofs.Weight.from_bits.Goals as goal
+
+pub returns-in-1 : goal.returns-in-1
+returns-in-1 c = rw c.in-1.is
+
+pub returns-in-2 : goal.returns-in-2
+returns-in-2 c = rw c.in-2.is
+
+pub returns-in-3 : goal.returns-in-3
+returns-in-3 c = rw c.in-3.is

@@ -1,0 +1,11 @@
+-- `bad_points` finds the first word of a point that breaks its rule. The invariant: what is found from record k on is what is found in all. The measure: how many are left.
+use Prim.Native.Nat.{◌-◌}
+use Rattle.fields.specs.Left.{FromRecord}
+use Rattle.records.specs.Records.{point_rules}
+use Rattle.fields.proofs.bad_points.Given as goal
+
+abbrev pub invariant-loop-k : goal.invariant-loop-k
+invariant-loop-k l = FromRecord l.image l.table point_rules l.k
+
+abbrev pub decreases-loop-k : goal.decreases-loop-k
+decreases-loop-k l = l.count - l.k

@@ -1,0 +1,11 @@
+-- `ElementKind::of` gives the kind that a number stands for.
+use Rattle.image.specs.Records.{element_kind_of}
+use Rattle.image.proofs.ElementKind.of.Goals as goal
+
+pub returns-in-0 : goal.returns-in-0
+unfolding element_kind_of
+returns-in-0 c = rw c.in-0.is
+
+pub returns-in-1 : goal.returns-in-1
+unfolding element_kind_of
+returns-in-1 c = rw c.in-1.is

@@ -1,0 +1,8 @@
+-- `flow_axis_of` gives the axis that an edge's flags say.
+use Rattle.image.proofs.flow_axis_of.Goals as goal
+
+pub returns-then-flag : goal.returns-then-flag
+returns-then-flag c = rw (← c.flag.ensures, c.if-flag.true)
+
+pub returns-else-flag : goal.returns-else-flag
+returns-else-flag c = rw (← c.flag.ensures, c.if-flag.false)

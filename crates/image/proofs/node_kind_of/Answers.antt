@@ -1,0 +1,15 @@
+-- `node_kind_of` gives the kind that a node's flags say.
+use Rattle.image.specs.Records.{node_kind_of}
+use Rattle.image.proofs.node_kind_of.Goals as goal
+
+pub returns-in-0 : goal.returns-in-0
+unfolding node_kind_of
+returns-in-0 c = rw (← c.bits.ensures, c.in-0.is)
+
+pub returns-in-1 : goal.returns-in-1
+unfolding node_kind_of
+returns-in-1 c = rw (← c.bits.ensures, c.in-1.is)
+
+pub returns-in-2 : goal.returns-in-2
+unfolding node_kind_of
+returns-in-2 c = rw (← c.bits.ensures, c.in-2.is)

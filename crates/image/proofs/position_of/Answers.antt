@@ -1,0 +1,8 @@
+-- `position_of` gives where a subgraph's label stands by its flags.
+use Rattle.image.proofs.position_of.Goals as goal
+
+pub returns-then-flag : goal.returns-then-flag
+returns-then-flag c = rw (← c.flag.ensures, c.if-flag.true)
+
+pub returns-else-flag : goal.returns-else-flag
+returns-else-flag c = rw (← c.flag.ensures, c.if-flag.false)

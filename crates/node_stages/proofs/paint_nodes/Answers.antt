@@ -1,0 +1,16 @@
+-- `paint_nodes` paints every node. The loop's invariant: the nodes left give what all of them give.
+use borrow.Author.Rules.{rules}
+use Prim.Native.Nat.{◌-◌}
+use Rattle.window.proofs.Theorems.{ready_after}
+use Rattle.stage.proofs.Laws.{stage_begins, stage_done}
+use Rattle.node_stages.proofs.Laws.{nodes_next}
+use Rattle.node_stages.proofs.paint_nodes.Goals as goal
+
+pub loop-k-init : goal.loop-k-init
+loop-k-init c = (search rules, search rules, search rules, search rules, search rules, stage_begins _ _ _ _ _)
+
+pub loop-k-preserved : goal.loop-k-preserved
+loop-k-preserved c = (search rules, search rules, search rules, search rules, search (ready_after, rules), search (nodes_next, rules))
+
+pub returns : goal.returns
+returns c = search (stage_done, rules)

@@ -1,0 +1,6 @@
+-- `corner_below` says whether a corner of an edge lies below 0.
+use Rattle.path.proofs.Laws.{legs_below}
+use Rattle.path.proofs.below.corner_below.Goals as goal
+
+pub returns : goal.returns
+returns c = legs_below _ _ _ _ _ _ c.in-MultiSegment.is c.multi_below.ensures

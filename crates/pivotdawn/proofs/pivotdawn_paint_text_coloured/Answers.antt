@@ -1,0 +1,13 @@
+-- `pivotdawn_paint_text_coloured` answers the code of the band as text, and stores its place and how many bytes were written.
+use mathlib.Core.Path.{refl}
+use Rattle.pivotdawn.proofs.Told.{text_words}
+use Rattle.pivotdawn.proofs.pivotdawn_paint_text_coloured.Goals as goal
+
+pub returns : goal.returns
+returns c =
+    record {
+      written = c.paint_text_coloured-coloured_text.result;
+      painted = c.paint_text_coloured-coloured_text.ensures;
+      answered = refl;
+      in_words = text_words c.paint_text_coloured-coloured_text.result c.args.answer.now c.store.new.0 _ c.store.ensures c.store-2.ensures;
+    }

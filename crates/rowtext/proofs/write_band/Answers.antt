@@ -1,0 +1,29 @@
+-- `write_band` meets its contract.
+use borrow.Author.Rules.{rules}
+use native.Mathlib.Omega.{arith}
+use Prim.Native.Nat.{◌-◌}
+use Rattle.rowtext.proofs.Laws.{row_less, no_row_yet, next_start}
+use Rattle.rowtext.proofs.write_band.Goals as goal
+
+pub loop-r-init : goal.loop-r-init
+loop-r-init c = (
+  search rules,
+  search rules,
+  search rules,
+  search rules,
+  omega arith,
+  no_row_yet c.args.width c.args.rows c.args.cells.now c.args.colours.now c.args.out.now,
+)
+
+pub write_part-at-requires : goal.write_part-at-requires
+write_part-at-requires c = (search rules, search rules, search rules)
+
+pub loop-r-preserved : goal.loop-r-preserved
+loop-r-preserved c = (
+  search rules,
+  search rules,
+  search rules,
+  search rules,
+  next_start c.args.width c.loop-r.r c.loop-r.start c.loop-r.invariant.4,
+  row_less c.args.width c.args.rows c.args.cells.now c.args.colours.now c.args.out.now c.loop-r.invariant.2 c.loop-r.r c.loop-r.at c.loop-r.start c.loop-r.out c.loop-r.invariant.3 c.loop-r.invariant.4 c.loop-r.invariant.5 _ _ (search rules) (c.write_part-at.ensures.value, c.write_part-at.ensures.out_after),
+)

@@ -1,0 +1,10 @@
+-- `print_rows` ends: the measure is how many rows are left. The invariant: the lent buffers keep their lengths.
+use borrow.Author.Rules.{rules}
+use Prim.Native.Nat.{◌-◌}
+use Rattle.sheetcells.proofs.print_rows.Goals as goal
+
+pub print_band-requires-clause-keeps : goal.print_band-requires-clause-keeps
+print_band-requires-clause-keeps c = (search rules, search rules, search rules, search rules)
+
+pub print_band-requires-clause-rows_le_band_rows : goal.print_band-requires-clause-rows_le_band_rows
+print_band-requires-clause-rows_le_band_rows c = (search rules, search rules)

@@ -1,0 +1,9 @@
+-- `list_all` ends. The measure: the things that are left.
+use Rattle.std.proofs.Common.{◌≡◌, ◌-◌, ◌≤◌, length}
+use Rattle.sheetdraft.proofs.fill.list_all.Given as goal
+
+abbrev pub invariant-loop-k : goal.invariant-loop-k
+invariant-loop-k l = (l.k ≤ l.things) × (length l.draft ≡ length l.initial.draft)
+
+abbrev pub decreases-loop-k : goal.decreases-loop-k
+decreases-loop-k l = l.things - l.k

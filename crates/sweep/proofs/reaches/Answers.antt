@@ -1,0 +1,7 @@
+-- `reaches`.
+use borrow.Author.Rules.{rules}
+use Rattle.sweep.proofs.Laws.{read_test}
+use Rattle.sweep.proofs.reaches.Goals as goal
+
+pub returns : goal.returns
+returns c = search (read_test, rules)

@@ -1,0 +1,11 @@
+-- `element_rule` is the rule of an element's field.
+use Rattle.word_rules.specs.Rules.{element_rule}
+use Rattle.word_rules.proofs.element_rule.Goals as goal
+
+pub returns-in-0 : goal.returns-in-0
+unfolding element_rule
+returns-in-0 c = rw c.in-0.is
+
+pub returns-in-1 : goal.returns-in-1
+unfolding element_rule
+returns-in-1 c = rw (c.index_rule.ensures, c.of.ensures, c.in-1.is)

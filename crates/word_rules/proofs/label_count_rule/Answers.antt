@@ -1,0 +1,8 @@
+-- `label_count_rule` is the rule of a label's count, by the label bit.
+use Rattle.word_rules.proofs.label_count_rule.Goals as goal
+
+pub returns-then-flag : goal.returns-then-flag
+returns-then-flag c = rw (← c.flag.ensures, c.if-flag.true)
+
+pub returns-else-flag : goal.returns-else-flag
+returns-else-flag c = rw (← c.flag.ensures, c.if-flag.false)

@@ -1,0 +1,19 @@
+-- `subgraph_rule` is the rule of a subgraph's field.
+use Rattle.word_rules.specs.Rules.{subgraph_rule}
+use Rattle.word_rules.proofs.subgraph_rule.Goals as goal
+
+pub returns-in-4 : goal.returns-in-4
+unfolding subgraph_rule
+returns-in-4 c = rw (c.word.ensures, c.in-4.is)
+
+pub returns-in-5 : goal.returns-in-5
+unfolding subgraph_rule
+returns-in-5 c = rw c.in-5.is
+
+pub returns-in-6 : goal.returns-in-6
+unfolding subgraph_rule
+returns-in-6 c = rw c.in-6.is
+
+pub returns-in-7 : goal.returns-in-7
+unfolding subgraph_rule
+returns-in-7 c = rw c.in-7.is

@@ -1,0 +1,7 @@
+-- `direct_reach` joins what a Direct edge reaches.
+use borrow.Author.Rules.{rules}
+use Rattle.y_reach.proofs.Reached.{direct_reached}
+use Rattle.y_reach.proofs.direct_reach.Goals as goal
+
+pub returns : goal.returns
+returns c = (search (direct_reached, rules), search rules)
