@@ -343,8 +343,9 @@ def answered(function, listed, goal, argument, body, unfolding, notes, own_requi
     out = []
     for name, part in made:
         part = turned.turned(part)
+        # A tactic reads what is bound, whether it is named or not.
         used = lets
-        while True:
+        while not re.search(r"\b(search|omega|grind|simp|rw|cc)\b", part):
             keep = [let for i, let in enumerate(used) if re.search(r"(?<![\w.'-])" + re.escape(re.match(r"let (\S+)", let)[1]) + r"(?![\w'-])", "\n".join(used[i + 1 :] + [part]))]
             if keep == used:
                 break

@@ -3,11 +3,9 @@ use Prim.Native.Nat.{ℕ, ◌+◌, ◌*◌, ◌/◌, ◌%◌, ◌≤◌, ◌<◌
 use native.Mathlib.Omega.{arith}
 use mathlib.Core.Path.{◌≡◌, refl, ap, ◌∙◌}
 use mathlib.Core.Bool.{Bool, true, false, cond}
-use mathlib.Core.List.{List, [], ◌∷◌}
+use mathlib.Core.Logic.{◌⊎◌, inl, inr}
 use lib.Dec.{eqb}
 use borrow.Author.Tests.{le-leb, lt-leb}
-use types.Run.{OneOf, miss}
-use denote.Enum.Declared.{tag_of}
 use Rattle.ground.proofs.Each.{cond_holds}
 use Rattle.cell.specs.declared.Weight.{Weight}
 use Rattle.cell.specs.declared.Weight.TheVariants as weight
@@ -22,8 +20,6 @@ use Rattle.cell.specs.OneCell.{weight_number, marker_number, dir_number, weight_
 use Rattle.cell.specs.OneCell.{pack_arms, pack_marker, pack, read_arms, read_text, read_marker, read, Valid}
 use Rattle.cell.specs.OneCell.{heavier, has_double, double_on_marker, stroked, marked}
 use Rattle.cell.specs.Computed.{double_on}
-use Rattle.cell.specs.contracts.Parts.{the_type}
-use Rattle.cell.specs.contracts.MarkerKind as markerKind
 
 -- the heavier of two weights, where the first is it
 pub heavier_first : (a b : Weight) → weight_number b ≤ weight_number a → a ≡ heavier a b
@@ -33,88 +29,66 @@ heavier_first a b h = simp (le-leb _ _ h)
 pub heavier_second : (a b : Weight) → weight_number a < weight_number b → b ≡ heavier a b
 heavier_second a b h = simp (lt-leb _ _ h)
 
--- the numbers of the variants of `Parts` that are text or a continuation, and of the others
-
-abbrev any_text : List ℕ
-any_text = 1 ∷ 2 ∷ []
-
-abbrev no_text : List ℕ
-no_text = 0 ∷ 3 ∷ 4 ∷ []
-
 module _ (kind : MarkerKind) (dir : Dir) (dashed : Bool) where
   -- a marker on text or a continuation
-  pub marked_kept : (p : Parts) → OneOf any_text (tag_of the_type p) → p ≡ marked p kind dir dashed
+  pub marked_kept : (p : Parts) → ((ch : ℕ) × (p ≡ Text ch)) ⊎ (p ≡ Continuation) → p ≡ marked p kind dir dashed
   unfolding marked
-  marked_kept Empty h = absurd (miss any_text 0 tt h)
-  marked_kept (Text ch) h = refl
-  marked_kept Continuation h = refl
-  marked_kept (Stroke arms) h = absurd (miss any_text 3 tt h)
-  marked_kept (Marker k d x) h = absurd (miss any_text 4 tt h)
+  marked_kept p (inl text) = rw text.1
+  marked_kept p (inr e) = rw e
 
   -- a marker on what is neither
-  pub marked_rest : (p : Parts) → OneOf no_text (tag_of the_type p) → Marker kind dir dashed ≡ marked p kind dir dashed
+  pub marked_rest : (p : Parts) → ((ch : ℕ) → p ≡ Text ch → ⊥) → (p ≡ Continuation → ⊥) → Marker kind dir dashed ≡ marked p kind dir dashed
   unfolding marked
-  marked_rest Empty h = refl
-  marked_rest (Text ch) h = absurd (miss no_text 1 tt h)
-  marked_rest Continuation h = absurd (miss no_text 2 tt h)
-  marked_rest (Stroke arms) h = refl
-  marked_rest (Marker k d x) h = refl
+  marked_rest Empty t k = refl
+  marked_rest (Text ch) t k = absurd (t ch refl)
+  marked_rest Continuation t k = absurd (k refl)
+  marked_rest (Stroke arms) t k = refl
+  marked_rest (Marker old d x) t k = refl
 
--- the numbers of the variants of `Parts` that are no marker
-abbrev others : List ℕ
-others = 0 ∷ 1 ∷ 2 ∷ 3 ∷ []
-
--- a stroke with a Double arm replaces them
-pub no_marker : (new : Arms) (p : Parts) → OneOf others (tag_of the_type p) → Stroke new ≡ double_on p new
+-- a stroke with a Double arm replaces what is no marker
+pub no_marker : (new : Arms) (p : Parts) → ((kind : MarkerKind) (dir : Dir) (dashed : Bool) → p ≡ Marker kind dir dashed → ⊥) → Stroke new ≡ double_on p new
 unfolding double_on
 no_marker new Empty h = refl
 no_marker new (Text ch) h = refl
 no_marker new Continuation h = refl
 no_marker new (Stroke arms) h = refl
-no_marker new (Marker k d x) h = absurd (miss others 4 tt h)
+no_marker new (Marker k d x) h = absurd (h k d x refl)
 
--- the numbers of the kinds of marker that are no Arrow
-abbrev no_arrow : List ℕ
-no_arrow = 1 ∷ 2 ∷ []
-
--- it replaces markers of these kinds
+-- it replaces markers that are no Arrow
 pub other_kind :
     (new : Arms) (dir : Dir) (dashed : Bool) (kind : MarkerKind) (p : Parts) →
-    OneOf no_arrow (tag_of markerKind.the_type kind) →
+    (kind ≡ Arrow → ⊥) →
     p ≡ Marker kind dir dashed →
     Stroke new ≡ double_on p new
 unfolding double_on double_on_marker
-other_kind new dir dashed Arrow p h e = absurd (miss no_arrow 0 tt h)
+other_kind new dir dashed Arrow p h e = absurd (h refl)
 other_kind new dir dashed SelfLoop p h e = rw e
 other_kind new dir dashed Dummy p h e = rw e
-
--- the numbers of the variants of `Parts` that are text or a marker
-abbrev text_or_marker : List ℕ
-text_or_marker = 1 ∷ 2 ∷ 4 ∷ []
 
 module _ (new : Arms) (double : Bool) (e : double ≡ has_double new) where
   -- a stroke on text or a marker, with a Double arm
   pub stroked_over :
       (r p : Parts) →
-      OneOf text_or_marker (tag_of the_type p) →
+      (p ≡ Empty → ⊥) →
+      ((arms : Arms) → p ≡ Stroke arms → ⊥) →
       double ≡ true →
       r ≡ double_on p new →
       r ≡ stroked p new
   unfolding stroked double_on
-  stroked_over r Empty h d f = absurd (miss text_or_marker 0 tt h)
-  stroked_over r (Text ch) h d f = rw (← e, d) f
-  stroked_over r Continuation h d f = rw (← e, d) f
-  stroked_over r (Stroke arms) h d f = absurd (miss text_or_marker 3 tt h)
-  stroked_over r (Marker k i x) h d f = rw (← e, d) f
+  stroked_over r Empty h s d f = absurd (h refl)
+  stroked_over r (Text ch) h s d f = rw (← e, d) f
+  stroked_over r Continuation h s d f = rw (← e, d) f
+  stroked_over r (Stroke arms) h s d f = absurd (s arms refl)
+  stroked_over r (Marker k i x) h s d f = rw (← e, d) f
 
   -- and without one
-  pub stroked_kept : (p : Parts) → OneOf text_or_marker (tag_of the_type p) → double ≡ false → p ≡ stroked p new
+  pub stroked_kept : (p : Parts) → (p ≡ Empty → ⊥) → ((arms : Arms) → p ≡ Stroke arms → ⊥) → double ≡ false → p ≡ stroked p new
   unfolding stroked
-  stroked_kept Empty h d = absurd (miss text_or_marker 0 tt h)
-  stroked_kept (Text ch) h d = rw (← e, d)
-  stroked_kept Continuation h d = rw (← e, d)
-  stroked_kept (Stroke arms) h d = absurd (miss text_or_marker 3 tt h)
-  stroked_kept (Marker k i x) h d = rw (← e, d)
+  stroked_kept Empty h s d = absurd (h refl)
+  stroked_kept (Text ch) h s d = rw (← e, d)
+  stroked_kept Continuation h s d = rw (← e, d)
+  stroked_kept (Stroke arms) h s d = absurd (s arms refl)
+  stroked_kept (Marker k i x) h s d = rw (← e, d)
 
 -- The numbers are small, and what they stand for is what they are the numbers of.
 

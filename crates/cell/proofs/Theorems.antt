@@ -125,7 +125,7 @@ pub proof_table_cell : ProofTableCell
 unfolding pack_arms pack_marker pack read_arms read_text read_marker read heavier_arms has_double double_on_marker stroked painted_stroke
 proof_table_cell = record {
   p1 = refl;
-  p2 = λ dashed. elim dashed [ true ↦ refl | false ↦ refl ];
+  p2 = λ dashed. elim dashed as (λ d. painted_stroke (pack (Marker Arrow Down d)) (horizontal Double) ≡ 0x800006D0) [ true ↦ refl | false ↦ refl ];
   p3 = refl;
   p4 = refl;
 }

@@ -9,4 +9,4 @@ unfolding double_on double_on_marker
 returns-in-Arrow c = rw (c.in-Marker.is, c.in-Arrow.is, c.max.ensures, c.stem.ensures)
 
 pub returns-in_default-kind : goal.returns-in_default-kind
-returns-in_default-kind c = other_kind _ _ _ _ _ c.in_default-kind.keys2 c.in-Marker.is
+returns-in_default-kind c = other_kind _ _ _ _ _ c.in_default-kind.not-Arrow c.in-Marker.is
