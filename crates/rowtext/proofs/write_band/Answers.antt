@@ -2,7 +2,8 @@
 use borrow.Author.Rules.{rules}
 use native.Mathlib.Omega.{arith}
 use Prim.Native.Nat.{◌-◌}
-use Rattle.rowtext.proofs.Laws.{row_less, no_row_yet, next_start}
+use lib.ListN.{length}
+use Rattle.rowtext.proofs.Laws.{row_fits, row_less, no_row_yet, row_inside, next_start}
 use Rattle.rowtext.proofs.write_band.Goals as goal
 
 pub loop-r-init : goal.loop-r-init
@@ -16,7 +17,10 @@ loop-r-init c = (
 )
 
 pub write_part-at-requires : goal.write_part-at-requires
-write_part-at-requires c = (search rules, search rules, search rules)
+write_part-at-requires c =
+    let inside = row_inside c.args.width c.args.rows c.loop-r.r (length c.args.cells.now) c.loop-r.start (search rules) c.loop-r.invariant.1 c.loop-r.invariant.4 in
+    let room = row_fits c.args.width c.args.rows c.args.cells.now c.args.colours.now c.args.out.now c.loop-r.invariant.2 c.loop-r.r c.loop-r.at c.loop-r.start c.loop-r.out c.loop-r.invariant.3 c.loop-r.invariant.4 c.loop-r.invariant.5 (search rules) in
+    (search rules, search rules, search rules)
 
 pub loop-r-preserved : goal.loop-r-preserved
 loop-r-preserved c = (

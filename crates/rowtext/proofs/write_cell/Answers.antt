@@ -1,9 +1,10 @@
 -- `write_cell` meets its contract.
 use borrow.Author.Rules.{rules}
 use mathlib.Core.Path.{sym}
+use lib.ListN.{length}
 use Rattle.shapes.proofs.Laws.{shape_small}
 use Rattle.utf8.proofs.Written.{put_nothing, put_as}
-use Rattle.rowtext.proofs.Laws.{nothing_shown, character_shown}
+use Rattle.rowtext.proofs.Laws.{nothing_shown, character_shown, character_fits}
 use Rattle.rowtext.proofs.write_cell.Goals as goal
 
 pub returns-in_default-clause-at_value : goal.returns-in_default-clause-at_value
@@ -19,7 +20,9 @@ returns-in_default-clause-out_after c =
     told.1
 
 pub put_character-requires : goal.put_character-requires
-put_character-requires c = (shape_small _ _ _ c.shape_of-shape.ensures c.in-Character.is, search rules)
+put_character-requires c =
+    let room = character_fits _ c.args.pen.colour c.args.colour _ c.shape_of-shape.ensures _ c.args.pen.at (length c.args.out.now) c.in-Character.is (search rules) in
+    (shape_small _ _ _ c.shape_of-shape.ensures c.in-Character.is, search rules)
 
 pub returns-clause-at_value : goal.returns-clause-at_value
 returns-clause-at_value c =

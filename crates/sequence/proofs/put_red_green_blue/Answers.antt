@@ -1,13 +1,17 @@
 -- `put_red_green_blue` meets its contract.
 use borrow.Author.Rules.{rules}
-use Rattle.sequence.proofs.Laws.{fits_red}
+use Rattle.sequence.proofs.Laws.{fits_red, fits_green, fits_blue}
 use Rattle.sequence.proofs.put_red_green_blue.Goals as goal
 
 pub put_numeral-red-requires : goal.put_numeral-red-requires
 put_numeral-red-requires c = (search rules, fits_red c.args.at c.args.colour c.args.out.now (search rules))
 
 pub put_numeral-green-requires : goal.put_numeral-green-requires
-put_numeral-green-requires c = (search rules, search rules)
+put_numeral-green-requires c =
+    let room = fits_green _ c.args.colour c.args.out.now (search rules) _ c.put_numeral-red.ensures.value in
+    (search rules, search rules)
 
 pub put_numeral-requires : goal.put_numeral-requires
-put_numeral-requires c = (search rules, search rules)
+put_numeral-requires c =
+    let room = fits_blue _ c.args.colour c.args.out.now (search rules) _ _ c.put_numeral-red.ensures.value c.put_numeral-green.ensures.value in
+    (search rules, search rules)

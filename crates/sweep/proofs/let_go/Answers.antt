@@ -34,4 +34,6 @@ returns-clause-list_after c =
     moved.1
 
 pub returns-clause-marks_after : goal.returns-clause-marks_after
-returns-clause-marks_after c = unmarked_done _ _ c.args.row _ _ c.requires.1 c.loop-i.i _ _ (search rules) c.loop-i.invariant.5
+returns-clause-marks_after c =
+    let moved = moved_done _ _ _ _ _ c.requires.1 c.loop-i.list c.loop-i.i c.loop-i.auto c.loop-i.invariant.4 (search rules) (search rules) in
+    unmarked_done _ _ c.args.row _ _ c.requires.1 c.loop-i.i _ _ (search rules) c.loop-i.invariant.5
