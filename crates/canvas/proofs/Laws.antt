@@ -5,23 +5,16 @@ use mathlib.Core.Bool.{Bool, true, false, and-false}
 use mathlib.Core.List.{List, [], ◌∷◌}
 use lib.ListN.{length, get_or, set, get_or-eq_default}
 use borrow.Author.Tests.{le-ltb, lt-ltb, eq-eqb, ne_eqb}
-use types.Run.{OneOf, miss}
-use denote.Enum.Declared.{tag_of}
 use Rattle.cell.specs.declared.Parts.{Parts}
 use Rattle.cell.specs.declared.Parts.TheVariants.{Empty, Text, Continuation, Stroke, Marker}
 use Rattle.cell.specs.OneCell.{pack, read}
-use Rattle.cell.specs.contracts.Parts.{the_type}
 use Rattle.glyph.specs.Width.{width_of}
 use Rattle.canvas.specs.Row.{space, lead_parts, continuation_parts, is_wide_lead, is_continuation}
 use Rattle.canvas.specs.Row.{empty_continuation, blank_lead, put, letter_row, wide_row, text_row}
 
--- the numbers of the variants of `Parts` that are no text
-abbrev no_text : List ℕ
-no_text = 0 ∷ 2 ∷ 3 ∷ 4 ∷ []
-
-lead_of_parts : (p : Parts) (ranges : List ℕ) → OneOf no_text (tag_of the_type p) → false ≡ lead_parts p ranges
+lead_of_parts : (p : Parts) (ranges : List ℕ) → ((ch : ℕ) → p ≡ Text ch → ⊥) → false ≡ lead_parts p ranges
 lead_of_parts Empty ranges h = refl
-lead_of_parts (Text ch) ranges h = absurd (miss no_text 1 tt h)
+lead_of_parts (Text ch) ranges h = absurd (h ch refl)
 lead_of_parts Continuation ranges h = refl
 lead_of_parts (Stroke arms) ranges h = refl
 lead_of_parts (Marker kind dir dashed) ranges h = refl
@@ -30,19 +23,15 @@ lead_of_parts (Marker kind dir dashed) ranges h = refl
 pub no_lead :
     (ranges : List ℕ) (word : ℕ) (p : Parts) →
     p ≡ read word →
-    OneOf no_text (tag_of the_type p) →
+    ((ch : ℕ) → p ≡ Text ch → ⊥) →
     false ≡ is_wide_lead word ranges
 unfolding is_wide_lead
 no_lead ranges word p e h = rw (← e) (lead_of_parts p ranges h)
 
--- the numbers of the variants of `Parts` that are no continuation
-abbrev others : List ℕ
-others = 0 ∷ 1 ∷ 3 ∷ 4 ∷ []
-
-continuation_of_parts : (p : Parts) → OneOf others (tag_of the_type p) → false ≡ continuation_parts p
+continuation_of_parts : (p : Parts) → (p ≡ Continuation → ⊥) → false ≡ continuation_parts p
 continuation_of_parts Empty h = refl
 continuation_of_parts (Text ch) h = refl
-continuation_of_parts Continuation h = absurd (miss others 2 tt h)
+continuation_of_parts Continuation h = absurd (h refl)
 continuation_of_parts (Stroke arms) h = refl
 continuation_of_parts (Marker kind dir dashed) h = refl
 
@@ -50,7 +39,7 @@ continuation_of_parts (Marker kind dir dashed) h = refl
 pub no_continuation :
     (word : ℕ) (p : Parts) →
     p ≡ read word →
-    OneOf others (tag_of the_type p) →
+    (p ≡ Continuation → ⊥) →
     false ≡ is_continuation word
 unfolding is_continuation
 no_continuation word p e h = rw (← e) (continuation_of_parts p h)

@@ -10,6 +10,7 @@ use Rattle.cell.specs.declared.Arms.{Arms}
 use Rattle.cell.specs.declared.MarkerKind.{MarkerKind}
 use Rattle.cell.specs.declared.MarkerKind.TheVariants.{Arrow, SelfLoop, Dummy}
 use Rattle.cell.specs.declared.Dir.{Dir}
+use Rattle.cell.specs.declared.Dir.TheVariants.{Down}
 use Rattle.cell.specs.OneCell.{pack_arms, pack_marker, pack, read_arms, read_text, read_marker, read, Valid, Packed}
 use Rattle.cell.specs.OneCell.{heavier_arms, has_double, double_on_marker, stroked, marked, painted_stroke, painted_marker, painted_text}
 use Rattle.cell.specs.ProofTable.{ProofTableCell}

@@ -8,8 +8,6 @@ use mathlib.Core.List.{List, [], ◌∷◌, ◌++◌, map-append, append-nil}
 use mathlib.Core.Path.{◌≡◌, refl, sym, ap, ◌∙◌}
 use lib.Dec.{eqb}
 use borrow.Author.Tests.{eq-eqb}
-use types.Run.{OneOf, miss}
-use denote.Enum.Declared.{tag_of}
 use Rattle.ground.specs.Each.{each, some}
 use Rattle.ground.proofs.Each.{each_append, or_left, or_right, or_neither}
 use Rattle.glyph.specs.Width.{bisect, width_of}
@@ -32,7 +30,6 @@ use Rattle.flow.specs.declared.Piece.{Piece}
 use Rattle.flow.specs.declared.Piece.TheVariants.{Nothing, Vertical, Horizontal, Run, Stroke, Mark}
 use Rattle.flow.specs.Pieces.{piece_spots, piece_run_on, piece_touches}
 use Rattle.flow.specs.Bounds.{bound, SmallCoordinate}
-use Rattle.flow.specs.contracts.Piece.{the_type}
 use Rattle.window.specs.Writes.{Write, Canvas, tinted, stamp_tint}
 use Rattle.window.specs.Window.{ink_window, canvas_of, Ready}
 use Rattle.window.proofs.Laws.{from_first, before_end}
@@ -201,10 +198,6 @@ pub last_small : (p : Piece) (row first last : ℕ) → p ≡ Run row first last
 unfolding RunPiece
 last_small p row first last is s = let c : RunPiece (Run row first last) = rw is at s in record { fits = c.1 }
 
--- the numbers of the variants of `Piece` that are no run
-abbrev no_run : List ℕ
-no_run = 0 ∷ 1 ∷ 2 ∷ 4 ∷ 5 ∷ []
-
 module _ (pen : Pen) (p : Piece) (before : List ℕ) (kept : ℕ) where
   abbrev KeptNow : List ℕ → ℕ → Type 0
   KeptNow after m = Kept before kept (runs_within pen.window (pieces_runs pen (p ∷ []))) after m
@@ -222,13 +215,13 @@ module _ (pen : Pen) (p : Piece) (before : List ℕ) (kept : ℕ) where
     run_elsewhere f h = let o : in_window pen.window row ≡ false = sym tested ∙ f in rw (is, o) (kept_none before kept h)
 
   -- any piece but a run
-  pub run_none : OneOf no_run (tag_of the_type p) → RunPiece p → kept ≤ run_room before → KeptNow before kept
+  pub run_none : ((row first last : ℕ) → p ≡ Run row first last → ⊥) → RunPiece p → kept ≤ run_room before → KeptNow before kept
   unfolding RunPiece piece_runs runs_within each
   run_none n r h = by_kind p r n
     where
-      by_kind : (q : Piece) → RunPiece q → OneOf no_run (tag_of the_type q) → Kept before kept (runs_within pen.window (pieces_runs pen (q ∷ []))) before kept
+      by_kind : (q : Piece) → RunPiece q → ((row first last : ℕ) → q ≡ Run row first last → ⊥) → Kept before kept (runs_within pen.window (pieces_runs pen (q ∷ []))) before kept
       by_kind Nothing s m = kept_none before kept h
-      by_kind (Run row first last) s m = absurd (miss no_run 3 tt m)
+      by_kind (Run row first last) s m = absurd (m row first last refl)
       by_kind (Vertical l) s m = absurd s
       by_kind (Horizontal l) s m = absurd s
       by_kind (Stroke x y arms) s m = absurd s
@@ -296,31 +289,23 @@ nothing_inked : (pen : Pen) (ranges : List ℕ) (a : Canvas) → Inked pen range
 unfolding piece_spots piece_runs each
 nothing_inked pen ranges a = record { inked = sym (ink_none pen.window ranges a); runless = refl }
 
--- the numbers of the variants that are no line
-abbrev lineless : List ℕ
-lineless = 0 ∷ 3 ∷ 4 ∷ 5 ∷ []
-
-pub no_line : (pen : Pen) (ranges : List ℕ) (p : Piece) (a : Canvas) → OneOf lineless (tag_of the_type p) → LinePiece p → Inked pen ranges (p ∷ []) a a
+pub no_line : (pen : Pen) (ranges : List ℕ) (p : Piece) (a : Canvas) → ((l : Line) → p ≡ Vertical l → ⊥) → ((l : Line) → p ≡ Horizontal l → ⊥) → LinePiece p → Inked pen ranges (p ∷ []) a a
 unfolding LinePiece
-no_line pen ranges Nothing a k s = nothing_inked pen ranges a
-no_line pen ranges (Vertical l) a k s = absurd (miss lineless 1 tt k)
-no_line pen ranges (Horizontal l) a k s = absurd (miss lineless 2 tt k)
-no_line pen ranges (Run row first last) a k s = absurd s
-no_line pen ranges (Stroke x y arms) a k s = absurd s
-no_line pen ranges (Mark x y dir) a k s = absurd s
+no_line pen ranges Nothing a k m s = nothing_inked pen ranges a
+no_line pen ranges (Vertical l) a k m s = absurd (k l refl)
+no_line pen ranges (Horizontal l) a k m s = absurd (m l refl)
+no_line pen ranges (Run row first last) a k m s = absurd s
+no_line pen ranges (Stroke x y arms) a k m s = absurd s
+no_line pen ranges (Mark x y dir) a k m s = absurd s
 
--- and those that are neither stroke nor arrow
-abbrev cellless : List ℕ
-cellless = 0 ∷ 1 ∷ 2 ∷ 3 ∷ []
-
-pub no_cell : (pen : Pen) (ranges : List ℕ) (p : Piece) (a : Canvas) → OneOf cellless (tag_of the_type p) → CellPiece p → Inked pen ranges (p ∷ []) a a
+pub no_cell : (pen : Pen) (ranges : List ℕ) (p : Piece) (a : Canvas) → ((x y : ℕ) (arms : Arms) → p ≡ Stroke x y arms → ⊥) → ((x y : ℕ) (dir : Dir) → p ≡ Mark x y dir → ⊥) → CellPiece p → Inked pen ranges (p ∷ []) a a
 unfolding CellPiece
-no_cell pen ranges Nothing a k s = nothing_inked pen ranges a
-no_cell pen ranges (Vertical l) a k s = absurd s
-no_cell pen ranges (Horizontal l) a k s = absurd s
-no_cell pen ranges (Run row first last) a k s = absurd s
-no_cell pen ranges (Stroke x y arms) a k s = absurd (miss cellless 4 tt k)
-no_cell pen ranges (Mark x y dir) a k s = absurd (miss cellless 5 tt k)
+no_cell pen ranges Nothing a k m s = nothing_inked pen ranges a
+no_cell pen ranges (Vertical l) a k m s = absurd s
+no_cell pen ranges (Horizontal l) a k m s = absurd s
+no_cell pen ranges (Run row first last) a k m s = absurd s
+no_cell pen ranges (Stroke x y arms) a k m s = absurd (k x y arms refl)
+no_cell pen ranges (Mark x y dir) a k m s = absurd (m x y dir refl)
 
 -- The pen of an edge has its ink.
 

@@ -6,8 +6,6 @@ use mathlib.Core.Bool.{Bool, true, false, not, cond}
 use mathlib.Core.List.{List, [], ◌∷◌, ◌++◌}
 use lib.Dec.{eqb}
 use borrow.Author.Tests.{lt-ltb, le-ltb, eq-eqb, ne_eqb}
-use types.Run.{OneOf, miss}
-use denote.Enum.Declared.{tag_of}
 use Rattle.cell.specs.declared.Arms.{Arms}
 use Rattle.cell.specs.declared.Dir.{Dir}
 use Rattle.rows.specs.declared.Rows.{Rows}
@@ -23,7 +21,6 @@ use Rattle.flow.specs.declared.Piece.TheVariants.{Nothing, Vertical, Horizontal,
 use Rattle.flow.specs.declared.Reach.{Reach}
 use Rattle.flow.specs.Pieces.{piece_runs_in}
 use Rattle.flow.specs.Reach.{row_if, vertical_rows, horizontal_rows, piece_rows, no_reach, piece_reach, join_reach, with_rows, reach_of}
-use Rattle.flow.specs.contracts.Piece.{the_type}
 
 -- The rows of a line by how far its ends lie apart: none where no cell lies between them, else its own.
 
@@ -61,15 +58,12 @@ module _ (window : Window) (p : Piece) (row first last : ℕ) (has : Bool) (is :
   unfolding piece_runs_in
   run_elsewhere t = rw (is, ← h, t)
 
-abbrev no_runs : List ℕ
-no_runs = 0 ∷ 1 ∷ 2 ∷ 4 ∷ 5 ∷ []
-
-pub no_run : (window : Window) (p : Piece) → OneOf no_runs (tag_of the_type p) → 0 ≡ piece_runs_in window p
+pub no_run : (window : Window) (p : Piece) → ((row first last : ℕ) → p ≡ Run row first last → ⊥) → 0 ≡ piece_runs_in window p
 unfolding piece_runs_in
 no_run window Nothing k = refl
 no_run window (Vertical l) k = refl
 no_run window (Horizontal l) k = refl
-no_run window (Run row first last) k = absurd (miss no_runs 3 tt k)
+no_run window (Run row first last) k = absurd (k row first last refl)
 no_run window (Stroke x y arms) k = refl
 no_run window (Mark x y dir) k = refl
 

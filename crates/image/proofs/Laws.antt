@@ -7,8 +7,6 @@ use mathlib.Core.Bool.{Bool, true, false, and-false}
 use mathlib.Core.List.{List, [], ◌∷◌}
 use lib.ListN.{length, take, drop}
 use borrow.Author.Tests.{le-leb, lt-leb}
-use types.Run.{OneOf, miss}
-use denote.Enum.Declared.{tag_of}
 use Rattle.layout.specs.declared.Table.{Table}
 use Rattle.layout.specs.Layout.{avoid_node_rows, show_dummies, node_kind_step, node_kinds, self_loop, path_step, paths, flow_x, reversed, start_marker, end_marker}
 use Rattle.layout.specs.Layout.{weight_step, weights, label_present, border_step, borders, inside_bottom, placeable, row_has_node}
@@ -39,7 +37,6 @@ use Rattle.image.specs.Records.{policy_of, header_of, node_kind_of, self_loop_of
 use Rattle.image.specs.Records.{position_of, subgraph_at, placed_label_at, element_kind_of, element_at}
 use Rattle.image.specs.Spans.{span_words, path_span}
 use Rattle.image.specs.Parts.{four_at, style_of, Bounded}
-use Rattle.image.specs.contracts.Path.{the_type}
 
 -- what lies between the beginnings of two records
 pub records_between : (t : Table) (k n : ℕ) → record_at t (k + n) - record_at t k ≡ n * t.size
@@ -80,17 +77,14 @@ module _ (t : Table) (span : Span) (size : ℕ) where
   unfolding span_words
   table_outside p = record { ordered = omega arith; inside = omega arith; words = λ image s. rw s (simp (lt-leb _ _ p, and-false)) }
 
-abbrev pointless : List ℕ
-pointless = 0 ∷ 1 ∷ 2 ∷ 5 ∷ []
-
 -- a path without points has the empty span
-pub no_points : (p : Path) → OneOf pointless (tag_of the_type p) → record { start = 0; count = 0 } ≡ path_span p
-no_points Direct k = refl
-no_points (Corner bend) k = refl
-no_points (SideChannel channel start end) k = refl
-no_points (MultiSegment span offset) k = absurd (miss pointless 3 tt k)
-no_points (Orthogonal span) k = absurd (miss pointless 4 tt k)
-no_points Spline k = refl
+pub no_points : (p : Path) → ((span : Span) (offset : ℕ) → p ≡ MultiSegment span offset → ⊥) → ((span : Span) → p ≡ Orthogonal span → ⊥) → record { start = 0; count = 0 } ≡ path_span p
+no_points Direct k o = refl
+no_points (Corner bend) k o = refl
+no_points (SideChannel channel start end) k o = refl
+no_points (MultiSegment span offset) k o = absurd (k span offset refl)
+no_points (Orthogonal span) k o = absurd (o span refl)
+no_points Spline k o = refl
 
 -- the label of an edge, by the flag that says whether it has one
 module _ (flags : ℕ) (span : Span) (test : Bool) (e : test ≡ flag flags label_present) where

@@ -5,15 +5,12 @@ use mathlib.Core.Bool.{Bool, true, false}
 use mathlib.Core.List.{List}
 use mathlib.Core.Path.{◌≡◌, refl, sym, ◌∙◌, ap}
 use lib.Dec.{eqb}
-use types.Run.{OneOf, miss}
-use denote.Enum.Declared.{tag_of}
 use Rattle.ground.specs.declared.Found.{Found}
 use Rattle.ground.specs.declared.Found.TheVariants as found
 use Rattle.image.specs.declared.Edge.{Edge}
 use Rattle.image.specs.declared.FlowAxis.{FlowAxis}
 use Rattle.image.specs.declared.Path.{Path}
 use Rattle.image.specs.declared.Path.TheVariants.{Direct, Corner, SideChannel, MultiSegment, Orthogonal, Spline}
-use Rattle.image.specs.contracts.Path.{the_type}
 use Rattle.image.specs.declared.Point.{Point}
 use Rattle.image.specs.declared.Span.{Span}
 use Rattle.image.specs.Spans.{point_count}
@@ -71,15 +68,15 @@ module _ (e : Edge) (offset : ℕ) (points : List ℕ) where
 
 -- An edge with another path, and a MultiSegment.
 module _ (path : Path) (e : Edge) (points : List ℕ) where
-  pub low_none : OneOf legless (tag_of the_type path) → low.None ≡ low_of path e points
+  pub low_none : ((span : Span) (offset : ℕ) → path ≡ MultiSegment span offset → ⊥) → low.None ≡ low_of path e points
   unfolding low_of
   low_none k = by_path path k
     where
-      by_path : (q : Path) → OneOf legless (tag_of the_type q) → low.None ≡ low_of q e points
+      by_path : (q : Path) → ((span : Span) (offset : ℕ) → q ≡ MultiSegment span offset → ⊥) → low.None ≡ low_of q e points
       by_path Direct k = refl
       by_path (Corner bend) k = refl
       by_path (SideChannel channel start end) k = refl
-      by_path (MultiSegment span offset) k = absurd (miss legless 3 tt k)
+      by_path (MultiSegment span offset) k = absurd (k span offset refl)
       by_path (Orthogonal span) k = refl
       by_path Spline k = refl
 

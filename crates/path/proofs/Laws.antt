@@ -6,12 +6,9 @@ use mathlib.Core.List.{List, [], ◌∷◌}
 use borrow.Author.Tests.{eq-eqb, ne_eqb}
 use Rattle.image.specs.declared.Edge.{Edge}
 use Rattle.image.specs.declared.Point.{Point}
-use types.Run.{OneOf, miss}
-use denote.Enum.Declared.{tag_of}
 use Rattle.image.specs.declared.Span.{Span}
 use Rattle.image.specs.declared.Path.{Path}
 use Rattle.image.specs.declared.Path.TheVariants.{Direct, Corner, SideChannel, MultiSegment, Orthogonal, Spline}
-use Rattle.image.specs.contracts.Path.{the_type}
 use Rattle.image.specs.declared.FlowAxis.{FlowAxis}
 use Rattle.image.specs.declared.FlowAxis.TheVariants.{Y, X}
 use Rattle.rows.specs.declared.Window.{Window}
@@ -129,19 +126,16 @@ module _ (axis : FlowAxis) (e : Edge) (offset : ℕ) (leg : Leg) where
 
 -- Only a MultiSegment has corners that can lie below 0.
 
-abbrev pub legless : List ℕ
-legless = 0 ∷ 1 ∷ 2 ∷ 4 ∷ 5 ∷ []
-
 module _ (p : Path) (e : Edge) (points : List ℕ) where
-  pub none_below : OneOf legless (tag_of the_type p) → false ≡ below_of p e points
+  pub none_below : ((span : Span) (offset : ℕ) → p ≡ MultiSegment span offset → ⊥) → false ≡ below_of p e points
   unfolding below_of
   none_below k = by_path p k
     where
-      by_path : (q : Path) → OneOf legless (tag_of the_type q) → false ≡ below_of q e points
+      by_path : (q : Path) → ((span : Span) (offset : ℕ) → q ≡ MultiSegment span offset → ⊥) → false ≡ below_of q e points
       by_path Direct k = refl
       by_path (Corner bend) k = refl
       by_path (SideChannel channel start end) k = refl
-      by_path (MultiSegment span offset) k = absurd (miss legless 3 tt k)
+      by_path (MultiSegment span offset) k = absurd (k span offset refl)
       by_path (Orthogonal span) k = refl
       by_path Spline k = refl
 

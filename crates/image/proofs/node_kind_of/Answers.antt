@@ -1,4 +1,6 @@
 -- `node_kind_of` gives the kind that a node's flags say.
+use Rattle.std.proofs.Common.{arith}
+use Rattle.std.proofs.lemmas.Grind.{common_steps}
 use Rattle.image.specs.Records.{node_kind_of}
 use Rattle.image.proofs.node_kind_of.Goals as goal
 
@@ -13,3 +15,7 @@ returns-in-1 c = rw (← c.bits.ensures, c.in-1.is)
 pub returns-in-2 : goal.returns-in-2
 unfolding node_kind_of
 returns-in-2 c = rw (← c.bits.ensures, c.in-2.is)
+
+pub returns-in_default : goal.returns-in_default
+unfolding node_kind_of
+returns-in_default c = grind (arith, common_steps)

@@ -1,4 +1,6 @@
 -- `path_of` gives the path that an edge's flags and three words say.
+use Rattle.std.proofs.Common.{arith}
+use Rattle.std.proofs.lemmas.Grind.{common_steps}
 use Rattle.image.specs.Records.{path_of}
 use Rattle.image.proofs.path_of.Goals as goal
 
@@ -21,3 +23,7 @@ returns-in-4 c = rw (← c.bits.ensures, c.in-4.is)
 pub returns-in-5 : goal.returns-in-5
 unfolding path_of
 returns-in-5 c = rw (← c.bits.ensures, c.in-5.is)
+
+pub returns-in_default : goal.returns-in_default
+unfolding path_of
+returns-in_default c = grind (arith, common_steps)

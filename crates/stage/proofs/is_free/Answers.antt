@@ -4,7 +4,7 @@ use Rattle.stage.proofs.Laws.{group_free}
 use Rattle.stage.proofs.is_free.Goals as goal
 
 pub returns : goal.returns
-returns c =
+returns c t =
     group_free c.args.marks.now _ _ _ _ _ _ _
     c.four_marks.ensures.value
     c.four_marks-2.ensures.value

@@ -1,4 +1,6 @@
 -- `edge_rule` is the rule of an edge's field.
+use Rattle.std.proofs.Common.{arith}
+use Rattle.std.proofs.lemmas.Grind.{common_steps}
 use borrow.Author.Rules.{rules}
 use Rattle.word_rules.specs.Rules.{edge_rule}
 use Rattle.word_rules.proofs.Laws.{rule_a, rule_b, rule_c, rule_start, rule_count}
@@ -35,3 +37,7 @@ returns-in-10 c = rw c.in-10.is
 pub returns-in-11 : goal.returns-in-11
 unfolding edge_rule
 returns-in-11 c = rw c.in-11.is
+
+pub returns-in_default : goal.returns-in_default
+unfolding edge_rule
+returns-in_default c = grind (arith, common_steps)

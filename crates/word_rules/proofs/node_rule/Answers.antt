@@ -1,4 +1,6 @@
 -- `node_rule` is the rule of a node's field.
+use Rattle.std.proofs.Common.{arith}
+use Rattle.std.proofs.lemmas.Grind.{common_steps}
 use Rattle.word_rules.specs.Rules.{node_rule}
 use Rattle.word_rules.proofs.node_rule.Goals as goal
 
@@ -21,3 +23,7 @@ returns-in-7 c = rw (c.loop_rule.ensures, c.word-in-7.ensures, c.in-7.is)
 pub returns-in-8 : goal.returns-in-8
 unfolding node_rule
 returns-in-8 c = rw (c.loop_rule-in-8.ensures, c.word-in-8.ensures, c.in-8.is)
+
+pub returns-in_default : goal.returns-in_default
+unfolding node_rule
+returns-in_default c = grind (arith, common_steps)

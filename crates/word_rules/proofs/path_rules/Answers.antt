@@ -1,4 +1,6 @@
 -- `path_rules` gives the rules of a, b and c for a path.
+use Rattle.std.proofs.Common.{arith}
+use Rattle.std.proofs.lemmas.Grind.{common_steps}
 use Rattle.word_rules.specs.Rules.{path_rules}
 use Rattle.word_rules.proofs.path_rules.Goals as goal
 
@@ -17,3 +19,7 @@ returns-in-3 c = rw c.in-3.is
 pub returns-in-4 : goal.returns-in-4
 unfolding path_rules
 returns-in-4 c = rw c.in-4.is
+
+pub returns-in_default : goal.returns-in_default
+unfolding path_rules
+returns-in_default c = grind (arith, common_steps)

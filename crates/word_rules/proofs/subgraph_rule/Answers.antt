@@ -1,4 +1,6 @@
 -- `subgraph_rule` is the rule of a subgraph's field.
+use Rattle.std.proofs.Common.{arith}
+use Rattle.std.proofs.lemmas.Grind.{common_steps}
 use Rattle.word_rules.specs.Rules.{subgraph_rule}
 use Rattle.word_rules.proofs.subgraph_rule.Goals as goal
 
@@ -17,3 +19,7 @@ returns-in-6 c = rw c.in-6.is
 pub returns-in-7 : goal.returns-in-7
 unfolding subgraph_rule
 returns-in-7 c = rw c.in-7.is
+
+pub returns-in_default : goal.returns-in_default
+unfolding subgraph_rule
+returns-in_default c = grind (arith, common_steps)
