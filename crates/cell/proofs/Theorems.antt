@@ -12,7 +12,8 @@ use Rattle.cell.specs.declared.MarkerKind.TheVariants.{Arrow, SelfLoop, Dummy}
 use Rattle.cell.specs.declared.Dir.{Dir}
 use Rattle.cell.specs.declared.Dir.TheVariants.{Down}
 use Rattle.cell.specs.OneCell.{pack_arms, pack_marker, pack, read_arms, read_text, read_marker, read, Valid, Packed}
-use Rattle.cell.specs.OneCell.{heavier_arms, has_double, double_on_marker, stroked, marked, painted_stroke, painted_marker, painted_text}
+use Rattle.cell.specs.declared.Weight.TheVariants.{Double}
+use Rattle.cell.specs.OneCell.{horizontal, heavier_arms, has_double, double_on_marker, stroked, marked, painted_stroke, painted_marker, painted_text}
 use Rattle.cell.specs.ProofTable.{ProofTableCell}
 use Rattle.cell.proofs.Laws.{weight_small, marker_small, dir_small, dashed_small}
 use Rattle.cell.proofs.Laws.{read_stroke, read_marker_lem, read_text_lem, stroke_valid, marker_valid}
