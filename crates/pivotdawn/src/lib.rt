@@ -1,4 +1,4 @@
-// Pivotdawn for C and Rust to link: its seven public calls, with numbers and slices alone. In C a slice is a pointer and a length; `include/pivotdawn.h` declares all seven.
+// The seven public calls of Pivotdawn with numbers and slices alone, as C and Rust call them: `pivotdawn_c` exports each of them.
 #![tactic(auto)]
 
 ghost use Rattle.std.specs.Prelude.{◌≡◌, set};
@@ -17,8 +17,7 @@ fn store(words: &mut [u64], place: usize, value: usize)
 }
 
 // `check`: answers the code of an image; its place goes into word 0 of `answer`, its run count into word 1.
-#[unsafe(no_mangle)]
-pub extern "C" fn pivotdawn_check(image: &[u32], answer: &mut [u64]) -> u32
+pub fn pivotdawn_check(image: &[u32], answer: &mut [u64]) -> u32
     ensures value { result ≡ (checked image.now).code }
     ensures answer_after { answer.new ≡ told (checked image.now) answer.old }
 {
@@ -29,8 +28,7 @@ pub extern "C" fn pivotdawn_check(image: &[u32], answer: &mut [u64]) -> u32
 }
 
 // `paint`: answers the code of a plain band; its place goes into word 0 of `answer`.
-#[unsafe(no_mangle)]
-pub extern "C" fn pivotdawn_paint(
+pub fn pivotdawn_paint(
     image: &[u32],
     first: usize,
     rows: usize,
@@ -49,8 +47,7 @@ pub extern "C" fn pivotdawn_paint(
 }
 
 // `paint_coloured`: answers the code of a coloured band; its place goes into word 0 of `answer`.
-#[unsafe(no_mangle)]
-pub extern "C" fn pivotdawn_paint_coloured(
+pub fn pivotdawn_paint_coloured(
     image: &[u32],
     first: usize,
     rows: usize,
@@ -73,8 +70,7 @@ pub extern "C" fn pivotdawn_paint_coloured(
 }
 
 // `paint_text`: answers the code of a band as plain text; its place goes into word 0 of `answer`, how many bytes were written into word 1.
-#[unsafe(no_mangle)]
-pub extern "C" fn pivotdawn_paint_text(
+pub fn pivotdawn_paint_text(
     image: &[u32],
     first: usize,
     rows: usize,
@@ -92,8 +88,7 @@ pub extern "C" fn pivotdawn_paint_text(
 }
 
 // `paint_text_coloured`: answers the code of a band as coloured text; its place goes into word 0 of `answer`, how many bytes were written into word 1.
-#[unsafe(no_mangle)]
-pub extern "C" fn pivotdawn_paint_text_coloured(
+pub fn pivotdawn_paint_text_coloured(
     image: &[u32],
     first: usize,
     rows: usize,
@@ -115,8 +110,7 @@ pub extern "C" fn pivotdawn_paint_text_coloured(
 }
 
 // `paint_sheet`: answers the code of a whole plain sheet; its place goes into word 0 of `answer`.
-#[unsafe(no_mangle)]
-pub extern "C" fn pivotdawn_paint_sheet(
+pub fn pivotdawn_paint_sheet(
     image: &[u32],
     band: usize,
     cells: &mut [u32],
@@ -131,8 +125,7 @@ pub extern "C" fn pivotdawn_paint_sheet(
 }
 
 // `paint_sheet_coloured`: answers the code of a whole coloured sheet; its place goes into word 0 of `answer`.
-#[unsafe(no_mangle)]
-pub extern "C" fn pivotdawn_paint_sheet_coloured(
+pub fn pivotdawn_paint_sheet_coloured(
     image: &[u32],
     band: usize,
     cells: &mut [u32],

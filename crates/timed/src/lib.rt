@@ -1,4 +1,4 @@
-// The check and the painting of an accepted image apart, for C and Rust to time: numbers and slices alone.
+// The check and the painting of an accepted image apart, with numbers and slices alone, for C and Rust to time: `timed_c` exports each of them.
 #![tactic(auto)]
 
 ghost use Rattle.std.specs.Prelude.{◌≡◌, ◌++◌, ◌+◌, ◌≤◌, length, drop, replicate};
@@ -10,8 +10,7 @@ ghost use Rattle.picture.specs.Painted.{room, scratch_room};
 use paint::accepted;
 
 // The code of an image.
-#[unsafe(no_mangle)]
-pub extern "C" fn timed_check(image: &[u32]) -> u32
+pub fn timed_check(image: &[u32]) -> u32
     ensures { result ≡ (checked image.now).code }
 {
     let found = refusals::check(image);
@@ -19,14 +18,7 @@ pub extern "C" fn timed_check(image: &[u32]) -> u32
 }
 
 // A plain band.
-#[unsafe(no_mangle)]
-pub extern "C" fn timed_paint(
-    image: &[u32],
-    first: usize,
-    rows: usize,
-    cells: &mut [u32],
-    scratch: &mut [u32],
-)
+pub fn timed_paint(image: &[u32], first: usize, rows: usize, cells: &mut [u32], scratch: &mut [u32])
     requires { Keeps image.now × (first + rows ≤ height image.now) × (room image.now rows ≤ length cells.old) × (scratch_room image.now ≤ length scratch.old) }
     ensures cells_after { cells.new ≡ picture_cells image.now first rows ++ drop (room image.now rows) cells.old }
     ensures scratch_after { scratch.new ≡ replicate (scratch_room image.now) 0 ++ drop (scratch_room image.now) scratch.old }
@@ -35,8 +27,7 @@ pub extern "C" fn timed_paint(
 }
 
 // A coloured band.
-#[unsafe(no_mangle)]
-pub extern "C" fn timed_paint_coloured(
+pub fn timed_paint_coloured(
     image: &[u32],
     first: usize,
     rows: usize,
