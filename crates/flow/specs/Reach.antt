@@ -6,7 +6,6 @@ use Rattle.rows.specs.declared.Rows.TheVariants as rows
 use Rattle.rows.specs.declared.Window.{Window}
 use Rattle.rows.specs.Window.{join_rows}
 use Rattle.rows.specs.Computed.{window_rows}
-use Rattle.flow.specs.declared.Line.{Line}
 use Rattle.flow.specs.declared.Piece.{Piece}
 use Rattle.flow.specs.declared.Piece.TheVariants.{Nothing, Vertical, Horizontal, Run, Stroke, Mark}
 use Rattle.flow.specs.declared.Reach.{Reach}
