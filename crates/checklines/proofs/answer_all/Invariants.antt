@@ -1,10 +1,7 @@
--- `answer_all` ends. The invariant: both buffers keep their lengths. The measure: the turns that are left.
+-- The invariant of `answer_all`: both buffers keep their lengths.
 use mathlib.Core.Path.{◌≡◌}
 use lib.ListN.{length}
 use Rattle.checklines.proofs.answer_all.Given as goal
 
-abbrev pub invariant-loop-more : goal.invariant-loop-more
-invariant-loop-more l = (length l.bytes ≡ 524288) × (length l.words ≡ 131072)
-
-abbrev pub decreases-loop-more : goal.decreases-loop-more
-decreases-loop-more l = l.turns
+abbrev pub invariant-loop : goal.invariant-loop
+invariant-loop g l = (length l.bytes ≡ 524288) × (length l.words ≡ 131072)

@@ -5,4 +5,4 @@ use lib.Seq.{length-take-le}
 use Rattle.paintlines.proofs.answer.Goals as goal
 
 pub slice_bounds-answer_read-end-2 : goal.slice_bounds-answer_read-end-2
-slice_bounds-answer_read-end-2 c = sym (length-take-le _ _ (search rules))
+slice_bounds-answer_read-end-2 g c = sym (length-take-le _ _ (search rules))

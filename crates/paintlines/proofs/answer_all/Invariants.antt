@@ -1,11 +1,7 @@
--- `answer_all` ends. The invariant: the buffers keep their lengths. The measure: the turns that are left.
+-- The invariant of `answer_all`: the buffers keep their lengths.
 use Rattle.paintlines.specs.Request.{Buffers}
 use Rattle.paintlines.proofs.answer_all.Given as goal
 
-abbrev pub invariant-loop-more : goal.invariant-loop-more
-invariant-loop-more l =
+abbrev pub invariant-loop : goal.invariant-loop
+invariant-loop g l =
     Buffers l.bytes l.image l.cells l.colours l.stamps l.scratch l.out
-
-abbrev pub decreases-loop-more : goal.decreases-loop-more
-decreases-loop-more l =
-    l.turns

@@ -4,4 +4,4 @@ use Rattle.paintlines.proofs.Laws.{asked_fits}
 use Rattle.paintlines.proofs.step.Goals as goal
 
 pub answer-requires : goal.answer-requires
-answer-requires c = (search (asked_fits, rules), search rules)
+answer-requires g c = (search (asked_fits, rules), search rules)

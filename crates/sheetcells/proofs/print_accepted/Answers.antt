@@ -4,4 +4,4 @@ use Rattle.sheetcells.proofs.Laws.{whole_fits}
 use Rattle.sheetcells.proofs.print_accepted.Goals as goal
 
 pub print_whole-requires : goal.print_whole-requires
-print_whole-requires c = (search (whole_fits, rules), search rules)
+print_whole-requires g c = (search (whole_fits, rules), search rules)

@@ -4,4 +4,4 @@ use Rattle.sheetcells.proofs.Laws.{scratch_fits}
 use Rattle.sheetcells.proofs.print_bands.Goals as goal
 
 pub print_rows-requires : goal.print_rows-requires
-print_rows-requires c = (search rules, search rules, search rules, search (scratch_fits, rules), search rules)
+print_rows-requires g c = (search rules, search rules, search rules, search (scratch_fits, rules), search rules)

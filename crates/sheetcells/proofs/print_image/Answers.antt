@@ -4,4 +4,4 @@ use Rattle.sheetcells.proofs.Laws.{accepted}
 use Rattle.sheetcells.proofs.print_image.Goals as goal
 
 pub print_accepted-requires : goal.print_accepted-requires
-print_accepted-requires c = (search (accepted, rules), search rules)
+print_accepted-requires g c = (search (accepted, rules), search rules)

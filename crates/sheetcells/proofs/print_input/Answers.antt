@@ -6,7 +6,7 @@ use Rattle.image_input.proofs.Laws.{words_within}
 use Rattle.sheetcells.proofs.print_input.Goals as goal
 
 pub slice_bounds-print_image-end : goal.slice_bounds-print_image-end
-slice_bounds-print_image-end c = search (words_within, rules)
+slice_bounds-print_image-end g c = search (words_within, rules)
 
 pub slice_bounds-print_image-end-2 : goal.slice_bounds-print_image-end-2
-slice_bounds-print_image-end-2 c = sym (length-take-le _ _ (search (words_within, rules)))
+slice_bounds-print_image-end-2 g c = sym (length-take-le _ _ (search (words_within, rules)))

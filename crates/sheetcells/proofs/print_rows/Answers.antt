@@ -4,7 +4,7 @@ use Prim.Native.Nat.{◌-◌}
 use Rattle.sheetcells.proofs.print_rows.Goals as goal
 
 pub print_band-requires-clause-keeps : goal.print_band-requires-clause-keeps
-print_band-requires-clause-keeps c = (search rules, search rules, search rules, search rules)
+print_band-requires-clause-keeps g c = (search rules, search rules, search rules, search rules)
 
 pub print_band-requires-clause-rows_le_band_rows : goal.print_band-requires-clause-rows_le_band_rows
-print_band-requires-clause-rows_le_band_rows c = (search rules, search rules)
+print_band-requires-clause-rows_le_band_rows g c = (search rules, search rules)

@@ -6,7 +6,7 @@ use Rattle.image_input.proofs.Laws.{words_within}
 use Rattle.sheetcheck.proofs.report_input.Goals as goal
 
 pub slice_bounds-report-end : goal.slice_bounds-report-end
-slice_bounds-report-end c = search (words_within, rules)
+slice_bounds-report-end g c = search (words_within, rules)
 
 pub slice_bounds-report-end-in-Words : goal.slice_bounds-report-end-in-Words
-slice_bounds-report-end-in-Words c = sym (length-take-le _ _ (search (words_within, rules)))
+slice_bounds-report-end-in-Words g c = sym (length-take-le _ _ (search (words_within, rules)))

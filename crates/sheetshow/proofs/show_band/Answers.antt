@@ -3,4 +3,4 @@ use borrow.Author.Rules.{rules}
 use Rattle.sheetshow.proofs.show_band.Goals as goal
 
 pub show_painted-requires : goal.show_painted-requires
-show_painted-requires c = (search rules, search rules, search rules, search rules)
+show_painted-requires g c = (search rules, search rules, search rules, search rules)

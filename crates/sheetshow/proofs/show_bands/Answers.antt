@@ -4,4 +4,4 @@ use Prim.Native.Nat.{◌-◌}
 use Rattle.sheetshow.proofs.show_bands.Goals as goal
 
 pub show_band-requires : goal.show_band-requires
-show_band-requires c = (search rules, search rules, search rules, record { in_cells = search rules; in_colours = search rules; in_stamps = search rules; in_scratch = search rules }, search rules)
+show_band-requires g c = (search rules, search rules, search rules, record { in_cells = search rules; in_colours = search rules; in_stamps = search rules; in_scratch = search rules }, search rules)

@@ -5,7 +5,7 @@ use lib.ListN.{length}
 use Rattle.sheetshow.proofs.show_bands.Given as goal
 
 abbrev pub invariant-loop-first : goal.invariant-loop-first
-invariant-loop-first l =
+invariant-loop-first g l =
     (l.first ≤ l.height)
     × (length l.cells ≡ length l.initial.cells)
     × (length l.colours ≡ length l.initial.colours)
@@ -14,5 +14,5 @@ invariant-loop-first l =
     × (length l.out ≡ length l.initial.out)
 
 abbrev pub decreases-loop-first : goal.decreases-loop-first
-decreases-loop-first l =
+decreases-loop-first g l =
     l.height - l.first

@@ -4,10 +4,10 @@ use Rattle.sheetshow.proofs.Laws.{whole_shown}
 use Rattle.sheetshow.proofs.show_image.Goals as goal
 
 pub show_whole-requires : goal.show_whole-requires
-show_whole-requires c = ((c.paint_whole-painted.ensures.whole (search rules)).0, whole_shown _ _ _ _ c.paint_whole-painted.ensures (search rules) (search rules), search rules)
+show_whole-requires g c = ((c.paint_whole-painted.ensures.whole (search rules)).0, whole_shown _ _ _ _ c.paint_whole-painted.ensures (search rules) (search rules), search rules)
 
 pub show_bands-requires : goal.show_bands-requires
-show_bands-requires c = (
+show_bands-requires g c = (
   c.paint_whole-painted.ensures.accepted (search rules),
   record {
     in_cells = search (c.requires.0.in_cells, rules);

@@ -6,7 +6,7 @@ use Rattle.image_input.proofs.Laws.{words_within}
 use Rattle.sheetshow.proofs.show_input.Goals as goal
 
 pub slice_bounds-show_image-end : goal.slice_bounds-show_image-end
-slice_bounds-show_image-end c = search (words_within, rules)
+slice_bounds-show_image-end g c = search (words_within, rules)
 
 pub slice_bounds-show_image-end-2 : goal.slice_bounds-show_image-end-2
-slice_bounds-show_image-end-2 c = sym (length-take-le _ _ (search (words_within, rules)))
+slice_bounds-show_image-end-2 g c = sym (length-take-le _ _ (search (words_within, rules)))

@@ -4,4 +4,4 @@ use Rattle.sheetshow.proofs.Laws.{band_within, band_inside}
 use Rattle.sheetshow.proofs.show_painted.Goals as goal
 
 pub show_rows-requires : goal.show_rows-requires
-show_rows-requires c = (search (band_inside, rules), search (band_within, rules), search rules, search rules)
+show_rows-requires g c = (search (band_inside, rules), search (band_within, rules), search rules, search rules)

@@ -5,7 +5,7 @@ use lib.ListN.{length}
 use Rattle.sheetshow.proofs.show_parts.Given as goal
 
 abbrev pub invariant-loop-first : goal.invariant-loop-first
-invariant-loop-first l = (l.first ≤ l.height) × (length l.out ≡ length l.initial.out)
+invariant-loop-first g l = (l.first ≤ l.height) × (length l.out ≡ length l.initial.out)
 
 abbrev pub decreases-loop-first : goal.decreases-loop-first
-decreases-loop-first l = l.height - l.first
+decreases-loop-first g l = l.height - l.first

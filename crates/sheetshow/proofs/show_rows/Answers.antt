@@ -4,4 +4,4 @@ use Rattle.sheetshow.proofs.Laws.{text_fits}
 use Rattle.sheetshow.proofs.show_rows.Goals as goal
 
 pub write_band-bytes-requires : goal.write_band-bytes-requires
-write_band-bytes-requires c = (search rules, search (text_fits, rules))
+write_band-bytes-requires g c = (search rules, search (text_fits, rules))

@@ -4,7 +4,7 @@ use lib.ListN.{length}
 use Rattle.paintlines.proofs.say.words.Given as goal
 
 abbrev pub invariant-loop-from : goal.invariant-loop-from
-invariant-loop-from l = l.from ≤ length l.all
+invariant-loop-from g l = l.from ≤ length l.all
 
 abbrev pub decreases-loop-from : goal.decreases-loop-from
-decreases-loop-from l = length l.all - l.from
+decreases-loop-from g l = length l.all - l.from

@@ -5,7 +5,7 @@ use lib.ListN.{length}
 use Rattle.sheetcheck.proofs.say.form.Given as goal
 
 abbrev pub invariant-loop-from : goal.invariant-loop-from
-invariant-loop-from l = (l.from ≤ length l.words) × (l.k ≤ l.from)
+invariant-loop-from g l = (l.from ≤ length l.words) × (l.k ≤ l.from)
 
 abbrev pub decreases-loop-from : goal.decreases-loop-from
-decreases-loop-from l = length l.words - l.from
+decreases-loop-from g l = length l.words - l.from

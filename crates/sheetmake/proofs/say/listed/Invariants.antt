@@ -3,7 +3,7 @@ use Rattle.std.proofs.Common.{◌-◌, length}
 use Rattle.sheetmake.proofs.say.listed.Given as goal
 
 abbrev pub invariant-loop-from : goal.invariant-loop-from
-invariant-loop-from l = Unit {0}
+invariant-loop-from g l = Unit {0}
 
 abbrev pub decreases-loop-from : goal.decreases-loop-from
-decreases-loop-from l = length l.all - l.from
+decreases-loop-from g l = length l.all - l.from
