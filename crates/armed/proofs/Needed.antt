@@ -1,6 +1,6 @@
 -- Why an edge has to have a weight: an image with one that has none, which is refused, holds a stroke without arms.
 use Prim.Native.Nat.{ℕ}
-use mathlib.Core.List.{List, [], ◌∷◌}
+use mathlib.Core.List.{List, ◌∷◌}
 use mathlib.Core.Path.{◌≡◌, refl}
 use Rattle.ground.specs.Each.{numbers, each}
 use Rattle.ground.specs.Turns.{turns}

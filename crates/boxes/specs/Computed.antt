@@ -1,5 +1,5 @@
 -- For the proofs alone: what the code makes a box of.
-use Rattle.std.specs.Prelude.{ℕ, Bool, true, false, List, [], ◌∷◌}
+use Rattle.std.specs.Prelude.{ℕ, Bool, true, false, List, ◌∷◌}
 use Rattle.cell.specs.declared.Weight.{Weight}
 use Rattle.rows.specs.Spots.{Spot, at, stroke}
 use Rattle.flow.specs.declared.Head.TheVariants.{None}

@@ -1,5 +1,5 @@
 -- The cases of document 01's proof table that speak of one row, P5 and P6, on words.
-use Rattle.std.specs.Prelude.{ℕ, ◌≡◌, List, [], ◌∷◌}
+use Rattle.std.specs.Prelude.{ℕ, ◌≡◌, List, ◌∷◌}
 use Rattle.canvas.specs.Row.{text_row}
 
 -- the width table that gives 6F22 width 2

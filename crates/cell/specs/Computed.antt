@@ -1,6 +1,4 @@
 -- For the proofs alone: how the code lays a stroke that has a Double arm on what a stroke does not merge with.
-use Rattle.cell.specs.declared.MarkerKind.{MarkerKind}
-use Rattle.cell.specs.declared.Dir.{Dir}
 use Rattle.cell.specs.declared.Arms.{Arms}
 use Rattle.cell.specs.declared.Parts.{Parts}
 use Rattle.cell.specs.declared.Parts.TheVariants.{Empty, Text, Continuation, Stroke, Marker}

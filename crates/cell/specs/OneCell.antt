@@ -1,5 +1,5 @@
 -- "One cell": its parts, how they are packed into a word and read back, and the three rules by which ink falls on what is there.
-use Rattle.std.specs.Prelude.{ℕ, ◌+◌, ◌*◌, ◌/◌, ◌%◌, ◌≤◌, Bool, true, false, cond, ◌||◌, ◌≡◌, eqb, leb}
+use Rattle.std.specs.Prelude.{ℕ, ◌+◌, ◌*◌, ◌/◌, ◌%◌, ◌≤◌, Bool, cond, ◌||◌, ◌≡◌, eqb, leb}
 use Rattle.cell.specs.declared.Weight.{Weight}
 use Rattle.cell.specs.declared.Weight.TheVariants as weight
 use Rattle.cell.specs.declared.MarkerKind.{MarkerKind}

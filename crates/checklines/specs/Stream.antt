@@ -1,5 +1,5 @@
 -- What is known of the next image of the stream: it has room.
-use Rattle.std.specs.Prelude.{ℕ, ◌≤◌}
+use Rattle.std.specs.Prelude.{◌≤◌}
 use Rattle.checklines.specs.declared.Next.{Next}
 use Rattle.checklines.specs.declared.Next.TheVariants.{Image, End, Unread}
 

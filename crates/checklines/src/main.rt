@@ -5,8 +5,8 @@
 ghost use Rattle.std.specs.Prelude.{◌≡◌, ◌≤◌, length};
 ghost use Rattle.checklines.specs.Stream.{Fitting};
 
-use libc::{STDIN_FILENO, STDOUT_FILENO};
 use refusals::Answer;
+use std::io;
 
 // What stands next on the stream.
 #[derive(Clone, Copy)]
@@ -20,11 +20,11 @@ enum Next {
 }
 
 // How many words the next image has.
-fn next_count() -> Next
+fn next_count<R: io::Read>(from: &mut R) -> Next
     ensures { Fitting result }
 {
     let mut head = [0u8; 4];
-    let got = io::read_full(STDIN_FILENO, &mut head);
+    let got = input::read_full(from, &mut head);
     if got == 0 {
         return Next::End;
     }
@@ -39,71 +39,84 @@ fn next_count() -> Next
     }
 }
 
-fn say_unread() {
-    io::write_all(STDOUT_FILENO, b"unread\n");
+fn say_unread(rt: &impl Print) -> io::Result<()> {
+    rt.write_all(b"unread\n")
 }
 
-fn say_answer(answer: Answer) {
-    io::print_decimal(STDOUT_FILENO, answer.code as u64);
-    io::write_all(STDOUT_FILENO, b" ");
-    io::print_decimal(STDOUT_FILENO, answer.place as u64);
-    io::write_all(STDOUT_FILENO, b" ");
-    io::print_decimal(STDOUT_FILENO, answer.runs as u64);
-    io::write_all(STDOUT_FILENO, b"\n");
+fn say_answer(rt: &impl Print, answer: Answer) -> io::Result<()> {
+    println!(rt; "{} {} {}", answer.code, answer.place, answer.runs)
 }
 
 // Reads an image of so many words and answers it; and whether it could be read.
-fn answer_image(count: usize, bytes: &mut [u8], words: &mut [u32]) -> bool
+fn answer_image<R: io::Read>(
+    rt: &impl Print,
+    from: &mut R,
+    count: usize,
+    bytes: &mut [u8],
+    words: &mut [u32],
+) -> io::Result<bool>
     requires { (count ≤ 131072) × (length bytes.old ≡ 524288) × (length words.old ≡ 131072) }
 {
     let size = 4 * count;
-    let got = io::read_full(STDIN_FILENO, &mut bytes[..size]);
+    let got = input::read_full(from, &mut bytes[..size]);
     if got < size {
-        say_unread();
-        return false;
+        say_unread(rt)?;
+        return Ok(false);
     }
     wordfile::fill(&bytes[..size], words);
-    say_answer(refusals::check(&words[..count]));
-    true
+    say_answer(rt, refusals::check(&words[..count]))?;
+    Ok(true)
 }
 
 // Answers the next image; and whether there may be another.
-fn step(bytes: &mut [u8], words: &mut [u32]) -> bool
+fn step<R: io::Read>(
+    rt: &impl Print,
+    from: &mut R,
+    bytes: &mut [u8],
+    words: &mut [u32],
+) -> io::Result<bool>
     requires { (length bytes.old ≡ 524288) × (length words.old ≡ 131072) }
 {
-    let next = next_count();
+    let next = next_count(from);
     match next {
-        Next::Image(count) => answer_image(count, bytes, words),
-        Next::End => false,
+        Next::Image(count) => answer_image(rt, from, count, bytes, words),
+        Next::End => Ok(false),
         Next::Unread => {
-            say_unread();
-            false
+            say_unread(rt)?;
+            Ok(false)
         }
     }
 }
 
-// Answers the images of the stream. A proved loop has to end, and nothing says that a stream does: the turns are counted down from a number that no stream uses up.
-fn answer_all(bytes: &mut [u8], words: &mut [u32])
+// Answers the images of the stream. A proved loop has to end, and nothing says that a stream does: the turns are counted up to a number that no stream reaches.
+fn answer_all<R: io::Read>(
+    rt: &impl Print,
+    from: &mut R,
+    bytes: &mut [u8],
+    words: &mut [u32],
+) -> io::Result<()>
     requires { (length bytes.old ≡ 524288) × (length words.old ≡ 131072) }
 {
-    let mut turns = u64::MAX;
-    let mut more = true;
-    while more {
-        if turns == 0 {
-            return;
+    for _ in 0..u64::MAX {
+        if !step(rt, from, bytes, words)? {
+            return Ok(());
         }
-        more = step(bytes, words);
-        turns -= 1;
     }
+    Ok(())
 }
 
 // The buffers as slices. An array is handed on whole and becomes a slice here, where its length is known from its type: the prover would count a local array's elements.
-fn lend_all(bytes: &mut [u8; 524288], words: &mut [u32; 131072]) {
-    answer_all(bytes, words);
+fn lend_all<R: io::Read>(
+    rt: &impl Print,
+    from: &mut R,
+    bytes: &mut [u8; 524288],
+    words: &mut [u32; 131072],
+) -> io::Result<()> {
+    answer_all(rt, from, bytes, words)
 }
 
-fn main() {
+fn main(rt: HostRuntime) -> io::Result<()> {
     let mut bytes = [0u8; 524288];
     let mut words = [0u32; 131072];
-    lend_all(&mut bytes, &mut words);
+    lend_all(&rt, &mut rt.stdin(), &mut bytes, &mut words)
 }

@@ -4,7 +4,7 @@ use Prim.Native.Nat.{ℕ, ◌+◌, ◌-◌, ◌≤◌, ◌<◌}
 use mir.Val.{Fits}
 use mir.Syntax.{w32}
 use mathlib.Core.Bool.{Bool, true, false, and-true}
-use mathlib.Core.List.{List, [], ◌∷◌, ◌++◌, map-append, append-nil}
+use mathlib.Core.List.{List, ◌∷◌, ◌++◌, map-append, append-nil}
 use mathlib.Core.Path.{◌≡◌, refl, sym, ap, ◌∙◌}
 use lib.Dec.{eqb}
 use borrow.Author.Tests.{eq-eqb}

@@ -1,5 +1,5 @@
 -- For the proofs alone: what drawing pieces of an edge leaves of the lent planes, and of the runs that are kept in the scratch.
-use Rattle.std.specs.Prelude.{ℕ, ◌+◌, ◌≤◌, ◌<◌, false, List, [], ◌≡◌}
+use Rattle.std.specs.Prelude.{ℕ, ◌+◌, ◌≤◌, ◌<◌, false, List, ◌≡◌}
 use Rattle.ground.specs.Each.{each, some}
 use Rattle.image.specs.declared.Edge.{Edge}
 use Rattle.image.specs.declared.EdgeLabel.TheVariants as label

@@ -1,6 +1,6 @@
 -- "a record field breaks its rule; an index or start + count leaves its table": the rules of an edge's words, in order. `w` gives the edge's word at an
 -- offset.
-use Rattle.std.specs.Prelude.{ℕ, Bool, cond, ◌&&◌, List, [], ◌∷◌, ◌++◌, eqb, ltb}
+use Rattle.std.specs.Prelude.{ℕ, Bool, cond, ◌&&◌, List, ◌∷◌, ◌++◌, eqb, ltb}
 use Rattle.layout.specs.Layout.{edge_from_x, edge_from_y, edge_to_x, edge_to_y, edge_flags, edge_a, edge_b, edge_c, edge_label_start, edge_label_count, edge_spare, label_present}
 use Rattle.layout.specs.Layout.{path_step, paths, path_corner, path_side_channel, path_multi_segment, path_orthogonal, path_spline, weight_step, weights}
 use Rattle.layout.specs.Tables.{bits, flag}

@@ -1,6 +1,5 @@
 -- For the proofs alone: what some edges leave of the lent planes, and of the runs that are kept in the scratch.
-use Rattle.std.specs.Prelude.{ℕ, ◌≤◌, List, ◌≡◌, length}
-use Rattle.layout.specs.declared.Tables.{Tables}
+use Rattle.std.specs.Prelude.{ℕ, ◌≤◌, List, ◌≡◌}
 use Rattle.rows.specs.declared.Window.{Window}
 use Rattle.window.specs.declared.Lent.{Lent}
 use Rattle.window.specs.Writes.{Write}

@@ -1,15 +1,12 @@
 -- The search for the first record of a table that is not good, record by record, and what it means that there is none.
-use native.Mathlib.Omega.{arith}
 use Prim.Native.Nat.{ℕ, ◌+◌, ◌-◌, ◌≤◌, ◌<◌}
 use mathlib.Core.Bool.{Bool, true, false, not}
-use mathlib.Core.List.{List}
 use mathlib.Core.Logic.{◌↔◌}
 use mathlib.Core.Path.{◌≡◌, refl, sym, ◌∙◌}
 use Rattle.ground.specs.declared.Found.{Found}
 use Rattle.ground.specs.declared.Found.TheVariants as found
-use Rattle.ground.specs.First.{found_if}
 use Rattle.ground.specs.Each.{numbers, each}
-use Rattle.ground.specs.Judged.{Judged, first_bad}
+use Rattle.ground.specs.Judged.{first_bad}
 use Rattle.ground.proofs.First.{found_none}
 use Rattle.ground.proofs.Judged.{one_judged, look_whole, look_again, look_hit, look_done, none_of_each, each_of_none}
 use Rattle.layout.specs.declared.Table.{Table}

@@ -1,14 +1,13 @@
 -- What holds of the list of elements by itself: what a listing is, and what it means that codes 7 and 8 find nothing.
 use native.Mathlib.Omega.{arith}
 use Prim.Native.Nat.{ℕ, suc, ◌-◌, ◌≤◌, ◌<◌}
-use mathlib.Core.Bool.{Bool, true, false, not, ◌&&◌, ◌||◌}
+use mathlib.Core.Bool.{Bool, true, false, not}
 use mathlib.Core.List.{List}
 use mathlib.Core.Logic.{◌↔◌}
-use mathlib.Core.Path.{◌≡◌, refl, sym, ◌∙◌}
+use mathlib.Core.Path.{◌≡◌, refl, sym}
 use lib.Dec.{ltb}
 use borrow.Author.Tests.{ltb-false, lt-ltb, le-ltb}
 use Rattle.ground.specs.declared.Found.TheVariants as found
-use Rattle.ground.specs.Each.{numbers, some}
 use Rattle.ground.specs.First.{found_if}
 use Rattle.ground.specs.Judged.{first_bad}
 use Rattle.ground.proofs.Each.{by_bool, or_left, or_right, or_neither, number_some, some_number}

@@ -1,5 +1,5 @@
 -- A rule whose place is a record's "first word": the records of a table in order, each good or not.
-use Rattle.std.specs.Prelude.{ℕ, Bool, List, [], ◌∷◌}
+use Rattle.std.specs.Prelude.{ℕ, Bool, List, ◌∷◌}
 use Rattle.ground.specs.Each.{numbers, each}
 use Rattle.ground.specs.Judged.{Judged, judged}
 use Rattle.layout.specs.declared.Table.{Table}

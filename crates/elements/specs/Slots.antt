@@ -1,6 +1,6 @@
 -- For the proofs alone: how the code finds each thing's listing in one walk. A word for each thing, `maxThings` of each kind, holds the number of the
 -- element which lists it and 1, or 0.
-use Rattle.std.specs.Prelude.{ℕ, zero, suc, ◌+◌, ◌*◌, ◌≤◌, ◌<◌, ◌≡◌, List, get_or}
+use Rattle.std.specs.Prelude.{ℕ, zero, suc, ◌+◌, ◌*◌, ◌<◌, ◌≡◌, List, get_or}
 use Rattle.ground.specs.Judged.{first_bad}
 use Rattle.ground.specs.declared.Found.{Found}
 use Rattle.ground.specs.declared.Found.TheVariants as found

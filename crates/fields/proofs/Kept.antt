@@ -1,7 +1,7 @@
 -- What it means that nothing is found in a table, and in several.
 use Prim.Native.Nat.{ℕ, ◌<◌}
 use mathlib.Core.Bool.{Bool}
-use mathlib.Core.List.{List, [], ◌∷◌}
+use mathlib.Core.List.{List, ◌∷◌}
 use mathlib.Core.Path.{◌≡◌, refl, sym, ◌∙◌}
 use Rattle.ground.specs.declared.Found.TheVariants as found
 use Rattle.ground.specs.Each.{each}

@@ -1,7 +1,7 @@
 -- The search through the records of a table, and through the tables.
 use Prim.Native.Nat.{ℕ, ◌+◌, ◌≤◌, ◌<◌}
 use mathlib.Core.Bool.{Bool}
-use mathlib.Core.List.{List, [], ◌∷◌, ◌++◌, append-nil}
+use mathlib.Core.List.{List, ◌∷◌, ◌++◌, append-nil}
 use mathlib.Core.Path.{◌≡◌, sym, ◌∙◌}
 use Rattle.ground.specs.Each.{each}
 use Rattle.ground.specs.First.{or_else}

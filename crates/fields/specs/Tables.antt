@@ -1,5 +1,5 @@
 -- Code 4: "a record field breaks its rule; an index or start + count leaves its table", at the "first such word".
-use Rattle.std.specs.Prelude.{ℕ, Bool, List, [], ◌∷◌, ◌++◌}
+use Rattle.std.specs.Prelude.{ℕ, Bool, List, ◌∷◌, ◌++◌}
 use Rattle.ground.specs.Each.{numbers, each}
 use Rattle.ground.specs.Judged.{Judged, judged_words}
 use Rattle.layout.specs.declared.RecordKind.{RecordKind}

@@ -2,16 +2,16 @@
 use Prim.Native.Nat.{ℕ, ◌+◌, ◌-◌, ◌*◌, ◌≤◌, ◌<◌}
 use mathlib.Core.Bool.{Bool, true, false, ◌&&◌}
 use mathlib.Core.List.{List}
-use mathlib.Core.Path.{◌≡◌, refl, sym, ◌∙◌, ap}
-use lib.Dec.{eqb, leb, ltb}
-use Rattle.ground.specs.First.{or_else, found_if, first_from}
+use mathlib.Core.Path.{◌≡◌, sym, ◌∙◌}
+use lib.Dec.{leb, ltb}
+use Rattle.ground.specs.First.{or_else}
 use Rattle.ground.specs.declared.Found.{Found}
 use Rattle.ground.specs.declared.Found.TheVariants as found
 use Rattle.glyph.specs.Ranges.{not_above}
 use Rattle.layout.specs.declared.Tables.{Tables}
 use Rattle.layout.specs.Layout.{range_size, range_last}
 use Rattle.layout.specs.Tables.{word, tables_of}
-use Rattle.elements.specs.Elements.{kind_of, index_of, first_row, last_row, names, lister, listing}
+use Rattle.elements.specs.Elements.{first_row, last_row, names, lister, listing}
 use Rattle.finding.specs.declared.OrderFaults.{OrderFaults}
 use Rattle.finding.specs.declared.RangeFaults.{RangeFaults}
 use Rattle.finding.specs.Ranges.{fixed_at, fixed_in, range_faults}

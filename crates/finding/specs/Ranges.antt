@@ -1,5 +1,5 @@
 -- Code 5, rule by rule: "a width range has first > last, first not above the last before it, or holds 0020, 0022, 005B or 005D".
-use Rattle.std.specs.Prelude.{ℕ, ◌-◌, Bool, true, false, ◌||◌, List, ltb}
+use Rattle.std.specs.Prelude.{ℕ, ◌-◌, List, ltb}
 use Rattle.ground.specs.First.{or_else, found_if}
 use Rattle.ground.specs.declared.Found.{Found}
 use Rattle.ground.specs.declared.Found.TheVariants as found

@@ -1,15 +1,14 @@
 -- The rows and runs that the code finds are those of the definitions: the first and the last row that a piece, or a list of pieces, touches, and its runs.
-use Prim.Native.Nat.{ℕ, ◌+◌, min, max}
+use Prim.Native.Nat.{ℕ}
 use mathlib.Core.Path.{◌≡◌, refl, sym, ◌∙◌}
-use mathlib.Core.Bool.{Bool, true, false, cond, ◌&&◌, ◌||◌, or-false}
-use mathlib.Core.List.{List, [], ◌∷◌}
-use lib.Dec.{ltb, eqb}
+use mathlib.Core.Bool.{Bool, true, false, cond, ◌&&◌, or-false}
+use mathlib.Core.List.{List, ◌∷◌}
+use lib.Dec.{eqb}
 use Rattle.ground.specs.Each.{some}
 use Rattle.ground.proofs.Each.{by_bool}
 use Rattle.cell.specs.declared.Arms.{Arms}
 use Rattle.cell.specs.OneCell.{horizontal, vertical}
 use Rattle.image.specs.declared.Edge.{Edge}
-use Rattle.rows.specs.declared.Rows.{Rows}
 use Rattle.rows.specs.declared.Rows.TheVariants as rows
 use Rattle.rows.specs.declared.Window.{Window}
 use Rattle.rows.specs.Spots.{stroke, Ink, inks, touches}

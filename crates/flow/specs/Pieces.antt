@@ -1,5 +1,5 @@
 -- What a piece of an edge makes, as data: strokes and arrows at places of the sheet, and runs, which wait.
-use Rattle.std.specs.Prelude.{ℕ, ◌+◌, Bool, false, cond, ◌||◌, List, [], ◌∷◌, map, eqb}
+use Rattle.std.specs.Prelude.{ℕ, ◌+◌, Bool, false, cond, ◌||◌, List, ◌∷◌, map, eqb}
 use Rattle.ground.specs.Each.{between}
 use Rattle.cell.specs.declared.Arms.{Arms}
 use Rattle.cell.specs.declared.MarkerKind.TheVariants as kind

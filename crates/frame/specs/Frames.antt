@@ -1,5 +1,5 @@
 -- What subgraphs, nodes and placed labels share: a box of strokes, and glyphs side by side.
-use Rattle.std.specs.Prelude.{ℕ, ◌+◌, ◌-◌, max, true, false, List, [], ◌∷◌, ◌++◌, map}
+use Rattle.std.specs.Prelude.{ℕ, ◌+◌, ◌-◌, max, true, false, List, ◌∷◌, ◌++◌, map}
 use Rattle.ground.specs.Each.{between}
 use Rattle.cell.specs.declared.Weight.{Weight}
 use Rattle.cell.specs.OneCell.{horizontal, vertical}

@@ -1,5 +1,5 @@
 -- "Nodes": how a node looks, and what it makes.
-use Rattle.std.specs.Prelude.{ℕ, ◌+◌, ◌-◌, max, Bool, false, cond, ◌&&◌, List, [], ◌∷◌, ◌++◌, leb}
+use Rattle.std.specs.Prelude.{ℕ, ◌+◌, ◌-◌, max, Bool, false, cond, ◌&&◌, List, ◌∷◌, ◌++◌, leb}
 use Rattle.cell.specs.declared.Weight.TheVariants.{Light}
 use Rattle.cell.specs.declared.MarkerKind.TheVariants as markerKind
 use Rattle.cell.specs.declared.Dir.TheVariants.{Up}

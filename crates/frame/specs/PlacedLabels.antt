@@ -1,5 +1,5 @@
 -- "Placed labels": when one paints, and what it makes.
-use Rattle.std.specs.Prelude.{ℕ, Bool, not, cond, ◌&&◌, List, [], ◌∷◌, ◌++◌}
+use Rattle.std.specs.Prelude.{ℕ, Bool, not, cond, ◌&&◌, List, ◌∷◌, ◌++◌}
 use Rattle.image.specs.declared.LabelPolicy.{LabelPolicy}
 use Rattle.image.specs.declared.LabelPolicy.TheVariants.{Geometric, AvoidNodeRows}
 use Rattle.image.specs.declared.PlacedLabel.{PlacedLabel}

@@ -1,5 +1,5 @@
 -- "Subgraphs": the border, and the label with its row and its fitting part.
-use Rattle.std.specs.Prelude.{ℕ, ◌+◌, ◌-◌, Bool, cond, ◌&&◌, List, [], ◌++◌, length, leb, ltb}
+use Rattle.std.specs.Prelude.{ℕ, ◌+◌, ◌-◌, Bool, cond, ◌&&◌, List, ◌++◌, length, leb, ltb}
 use Rattle.cell.specs.OneCell.{weight_number}
 use Rattle.image.specs.declared.LabelPosition.{LabelPosition}
 use Rattle.image.specs.declared.LabelPosition.TheVariants.{InsideTop, InsideBottom}

@@ -5,7 +5,7 @@ use Prim.Native.Nat.{ℕ, zero, suc, ◌+◌, ◌-◌, ◌*◌, ◌≤◌, ◌<�
 use mathlib.Core.Bool.{Bool, true, false, not, ◌&&◌, ◌||◌, true≢false}
 use mathlib.Core.Logic.{◌↔◌}
 use mathlib.Core.Path.{◌≡◌, refl, sym, ap, ◌∙◌}
-use mathlib.Core.List.{List, [], ◌∷◌}
+use mathlib.Core.List.{List, ◌∷◌}
 use lib.Dec.{eqb, ltb, leb}
 use lib.ListN.{length, get_or, take, length-take}
 use lib.Seq.{length-take-le}
@@ -18,7 +18,7 @@ use Rattle.glyph.specs.Ranges.{Fixed, space, quote, opening, closing, RangeGood,
 use Rattle.glyph.specs.Fitting.{columns_of, fit_count, fit_prefix, LongestPrefix}
 use Rattle.glyph.proofs.Laws.{by_range, range_kept, range_hit}
 use Rattle.ground.specs.declared.Found.TheVariants as found
-use Rattle.ground.specs.Each.{numbers, each, every}
+use Rattle.ground.specs.Each.{numbers, each}
 use Rattle.ground.specs.Judged.{first_bad}
 use Rattle.ground.proofs.Each.{or_left, or_right, or_neither, by_bool, every_number, number_every}
 use Rattle.ground.proofs.Judged.{none_of_each, each_of_none}

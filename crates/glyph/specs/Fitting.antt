@@ -1,5 +1,5 @@
 -- "The fitting part is the longest prefix of at most .. columns, handed back as a part of the lent glyphs."
-use Rattle.std.specs.Prelude.{cond, ℕ, zero, suc, ◌+◌, ◌-◌, ◌≤◌, ◌≡◌, List, [], ◌∷◌, length, take, leb}
+use Rattle.std.specs.Prelude.{cond, ℕ, suc, ◌+◌, ◌-◌, ◌≤◌, ◌≡◌, List, ◌∷◌, length, take, leb}
 use Rattle.glyph.specs.Width.{width_of}
 
 -- the columns that glyphs take

@@ -1,6 +1,6 @@
 -- The rule of code 5: "a width range has first > last, first not above the last before it, or holds 0020, 0022, 005B or 005D". It is one test, over any
 -- table of ranges.
-use Rattle.std.specs.Prelude.{ℕ, ◌-◌, ◌≤◌, ◌<◌, Bool, not, ◌&&◌, ◌||◌, List, [], ◌∷◌, ◌≡◌, leb, ltb}
+use Rattle.std.specs.Prelude.{ℕ, ◌-◌, ◌≤◌, ◌<◌, Bool, not, ◌&&◌, ◌||◌, List, ◌∷◌, ◌≡◌, leb, ltb}
 use Rattle.ground.specs.Each.{numbers, each, every}
 use Rattle.ground.specs.Judged.{Judged, judged, first_bad}
 use Rattle.ground.specs.declared.Found.{Found}

@@ -1,5 +1,5 @@
 -- "Width range, 3: first, last, width 0 or 2; all others 1." A table of ranges is a list of words, three for each range.
-use Rattle.std.specs.Prelude.{ℕ, zero, suc, ◌+◌, ◌-◌, ◌*◌, ◌/◌, ◌≤◌, ◌<◌, Bool, true, false, cond, List, length, get_or, eqb, ltb}
+use Rattle.std.specs.Prelude.{ℕ, zero, suc, ◌+◌, ◌-◌, ◌*◌, ◌/◌, ◌≤◌, ◌<◌, cond, List, length, get_or, eqb, ltb}
 use Rattle.layout.specs.Layout.{range_last, range_size}
 use Rattle.layout.specs.Layout as layout
 

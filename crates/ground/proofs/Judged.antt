@@ -1,15 +1,15 @@
 -- The first that breaks a rule: a turn of the search for it, a word more of a record, what it is that was found, and what it means that nothing was.
 use native.Mathlib.Omega.{arith}
-use Prim.Native.Nat.{ℕ, zero, suc, ◌+◌, ◌-◌, ◌≤◌, ◌<◌}
-use mathlib.Core.Bool.{Bool, true, false, not, cond, ◌&&◌}
-use mathlib.Core.List.{List, [], ◌∷◌, ◌++◌}
+use Prim.Native.Nat.{ℕ, suc, ◌+◌, ◌-◌, ◌≤◌, ◌<◌}
+use mathlib.Core.Bool.{Bool, true, false, not}
+use mathlib.Core.List.{List, ◌∷◌, ◌++◌}
 use mathlib.Core.Path.{◌≡◌, refl, sym, ◌∙◌, ap}
 use Rattle.ground.specs.declared.Found.{Found}
 use Rattle.ground.specs.declared.Found.TheVariants as found
 use Rattle.ground.specs.First.{or_else, found_if}
 use Rattle.ground.specs.Each.{numbers, each, every}
 use Rattle.ground.specs.Judged.{Judged, judged, judged_words, first_bad, FirstBad}
-use Rattle.ground.proofs.Each.{by_bool, and_left, and_right, and_both, every_append, every_each, each_step, each_done, numbers_whole, every_number, number_every}
+use Rattle.ground.proofs.Each.{by_bool, and_left, and_right, and_both, every_each, each_step, each_done, numbers_whole, every_number, number_every}
 
 -- two lists one after the other
 pub bad_append : (k l : List Judged) → first_bad (k ++ l) ≡ or_else (first_bad k) (first_bad l)

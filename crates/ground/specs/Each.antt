@@ -1,5 +1,5 @@
 -- Going over a list or over numbers in order: "Each group goes by index."
-use Rattle.std.specs.Prelude.{ℕ, zero, suc, ◌+◌, ◌-◌, min, max, Bool, true, false, ◌&&◌, ◌||◌, List, [], ◌∷◌, ◌++◌}
+use Rattle.std.specs.Prelude.{ℕ, zero, suc, ◌+◌, ◌-◌, min, max, Bool, true, false, ◌&&◌, ◌||◌, List, ◌∷◌, ◌++◌}
 
 -- so many numbers from a first on
 unfoldable pub numbers : ℕ → ℕ → List ℕ

@@ -1,5 +1,5 @@
 -- "first such word": what a rule looks at, in order, each with its place and whether it keeps the rule.
-use Rattle.std.specs.Prelude.{ℕ, suc, ◌+◌, Bool, true, false, cond, List, [], ◌∷◌, ◌++◌, ◌≡◌}
+use Rattle.std.specs.Prelude.{ℕ, suc, ◌+◌, Bool, true, false, cond, List, ◌∷◌, ◌++◌, ◌≡◌}
 use Rattle.ground.specs.declared.Found.{Found}
 use Rattle.ground.specs.declared.Found.TheVariants as found
 use Rattle.ground.specs.Each.{every}

@@ -1,5 +1,5 @@
 -- Code 2: "header number over its limit or spare bit set", at the first such word.
-use Rattle.std.specs.Prelude.{ℕ, ◌%◌, ◌≤◌, Bool, List, [], ◌∷◌, ◌++◌, ◌≡◌}
+use Rattle.std.specs.Prelude.{ℕ, ◌%◌, ◌≤◌, Bool, List, ◌∷◌, ◌++◌, ◌≡◌}
 use Rattle.ground.specs.Judged.{Judged, judged_words}
 use Rattle.layout.specs.Layout.{header_width, header_height, header_runs, header_flags, header_nodes, header_edges, header_subgraphs, header_labels, header_elements, header_points, header_glyphs, header_ranges}
 use Rattle.layout.specs.Layout.{max_width, max_height, max_runs, max_things, max_elements, max_points, max_glyphs, max_ranges, header_spare}

@@ -1,5 +1,5 @@
 -- "each cell eight upper-case hex digits, single-spaced"; bytes in the same form
-use Rattle.std.specs.Prelude.{ℕ, ◌+◌, ◌/◌, ◌%◌, min, cond, List, [], ◌∷◌, ◌++◌, ltb, length}
+use Rattle.std.specs.Prelude.{ℕ, ◌+◌, ◌/◌, ◌%◌, min, cond, List, ◌∷◌, ◌++◌, ltb, length}
 
 -- a digit, by its number below 16: `0` is 48 and `A` is 65
 unfoldable pub digit : ℕ → ℕ

@@ -1,5 +1,5 @@
 -- Parts of tables as lists of words: a path's points, a label's glyphs, the width ranges.
-use Rattle.std.specs.Prelude.{ℕ, ◌+◌, ◌*◌, ◌/◌, Bool, cond, ◌&&◌, List, [], length, take, drop, leb}
+use Rattle.std.specs.Prelude.{ℕ, ◌+◌, ◌*◌, ◌/◌, Bool, cond, ◌&&◌, List, length, take, drop, leb}
 use Rattle.layout.specs.declared.Table.{Table}
 use Rattle.layout.specs.Layout.{point_size, point_x, point_y}
 use Rattle.layout.specs.Tables.{word, table_end, record_at}

@@ -5,6 +5,7 @@ ghost use Rattle.std.specs.Prelude.{◌<◌, length};
 ghost use Rattle.image_input.specs.Came.{Came};
 
 use input::Input;
+use std::io;
 
 // The words of nodes, edges, subgraphs and placed labels, each as many as there may be.
 const THING_WORDS: usize = layout::MAX_THINGS as usize
@@ -40,10 +41,10 @@ fn fill_words(bytes: &[u8], got: usize, words: &mut [u32]) -> usize
 }
 
 // Reads an image into the lent words. The lent bytes have room for one more than the largest image has: where they are filled the input is longer, and is never taken for a whole one.
-pub fn read_image(bytes: &mut [u8], words: &mut [u32]) -> Image
+pub fn read_image<R: io::Read>(from: &mut R, bytes: &mut [u8], words: &mut [u32]) -> Image
     ensures { Came result bytes.new words.old words.new }
 {
-    let came = input::read_all(bytes);
+    let came = input::read_all(from, bytes);
     let Input::Bytes(got) = came else {
         return Image::Failed;
     };

@@ -2,9 +2,9 @@
 #![tactic(auto)]
 
 ghost use Rattle.std.specs.Prelude.{◌+◌, ◌≤◌, length};
-ghost use Rattle.input.specs.Within.{Within};
+ghost use Rattle.input.specs.Within.{IsPrefixLen, Within};
 
-use libc::STDIN_FILENO;
+use std::io;
 
 // What came of reading.
 #[derive(Clone, Copy)]
@@ -25,31 +25,36 @@ struct Read {
 }
 
 // One read, into the whole of the lent bytes.
-fn read_some(bytes: &mut [u8]) -> Read
+fn read_some<R: io::Read>(from: &mut R, bytes: &mut [u8]) -> Read
     ensures { result.count ≤ length bytes.new }
 {
-    let got = libc::read(STDIN_FILENO, bytes);
-    Read {
-        failed: got < 0,
-        count: io::count(got, bytes),
+    match from.read(bytes) {
+        Ok(count) => Read {
+            failed: false,
+            count,
+        },
+        Err(_) => Read {
+            failed: true,
+            count: 0,
+        },
     }
 }
 
 // One read, behind the bytes that are there already.
-fn read_behind(bytes: &mut [u8], done: usize) -> Read
+fn read_behind<R: io::Read>(from: &mut R, bytes: &mut [u8], done: usize) -> Read
     requires { done ≤ length bytes.old }
     ensures { done + result.count ≤ length bytes.new }
 {
-    read_some(&mut bytes[done..])
+    read_some(from, &mut bytes[done..])
 }
 
 // Reads until the input ends or the lent bytes are full.
-pub fn read_all(bytes: &mut [u8]) -> Input
+pub fn read_all<R: io::Read>(from: &mut R, bytes: &mut [u8]) -> Input
     ensures { Within result bytes.new }
 {
     let mut done: usize = 0;
     while done < bytes.len() {
-        let more = read_behind(bytes, done);
+        let more = read_behind(from, bytes, done);
         if more.failed {
             return Input::Failed;
         }
@@ -59,4 +64,19 @@ pub fn read_all(bytes: &mut [u8]) -> Input
         done += more.count;
     }
     Input::Bytes(done)
+}
+
+// Reads until the lent bytes are full, the input ends or the system refuses to read, and answers how many bytes stand at their start.
+pub fn read_full<R: io::Read>(from: &mut R, bytes: &mut [u8]) -> usize
+    ensures { IsPrefixLen result bytes.new }
+{
+    let mut done: usize = 0;
+    while done < bytes.len() {
+        let more = read_behind(from, bytes, done);
+        if more.count == 0 {
+            return done;
+        }
+        done += more.count;
+    }
+    done
 }

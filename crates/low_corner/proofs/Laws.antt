@@ -5,7 +5,6 @@ use mathlib.Core.Bool.{Bool, true, false}
 use mathlib.Core.List.{List}
 use mathlib.Core.Path.{◌≡◌, refl, sym, ◌∙◌, ap}
 use lib.Dec.{eqb}
-use Rattle.ground.specs.declared.Found.{Found}
 use Rattle.ground.specs.declared.Found.TheVariants as found
 use Rattle.image.specs.declared.Edge.{Edge}
 use Rattle.image.specs.declared.FlowAxis.{FlowAxis}
@@ -15,15 +14,13 @@ use Rattle.image.specs.declared.Point.{Point}
 use Rattle.image.specs.declared.Span.{Span}
 use Rattle.image.specs.Spans.{point_count}
 use Rattle.flow.specs.declared.Leg.{Leg}
-use Rattle.flow.specs.Bounds.{SmallLeg}
 use Rattle.orthogonal.specs.Points.{path_point}
 use Rattle.path.specs.Pieces.{leg_between, leg_at}
 use Rattle.path.specs.Corners.{leg_below}
-use Rattle.path.proofs.Laws.{legless}
 use Rattle.finding.proofs.Search.{found_to, search_whole, search_hit, search_on, search_done}
 use Rattle.low_corner.specs.declared.LowCorner.{LowCorner}
 use Rattle.low_corner.specs.declared.LowCorner.TheVariants as low
-use Rattle.low_corner.specs.Low.{leg_low, low_leg, corner_at, corner_of, low_of, low_corner}
+use Rattle.low_corner.specs.Low.{leg_low, low_leg, corner_at, corner_of, low_of}
 
 -- the leg between two points of the path that follow one another
 pub leg_put :

@@ -1,9 +1,9 @@
 -- What is told of a corner is what code 6 refuses, and the corner lies below 0 by as much as it is told.
 use native.Mathlib.Omega.{arith}
-use Prim.Native.Nat.{ℕ, ◌+◌, ◌≤◌, ◌<◌}
+use Prim.Native.Nat.{ℕ, ◌+◌, ◌<◌}
 use mathlib.Core.Bool.{Bool, true, false, not, ◌&&◌}
 use mathlib.Core.List.{List}
-use mathlib.Core.Path.{◌≡◌, refl, sym, ◌∙◌, ap}
+use mathlib.Core.Path.{◌≡◌, refl, ◌∙◌}
 use lib.Dec.{eqb}
 use Rattle.ground.specs.declared.Found.{Found}
 use Rattle.ground.specs.declared.Found.TheVariants as found
@@ -19,11 +19,11 @@ use Rattle.flow.specs.Flow.{along, corner_steps}
 use Rattle.flow.proofs.Signed.{along_with, along_back}
 use Rattle.y_flow.specs.YFlow.{sign_y, corner_row}
 use Rattle.x_flow.specs.XFlow.{sign_x, corner_column}
-use Rattle.path.specs.Corners.{is_below, leg_below, multi_below, below_of, corner_below}
+use Rattle.path.specs.Corners.{is_below, leg_below, multi_below, below_of}
 use Rattle.elements.proofs.Laws.{is_found, some_found}
 use Rattle.low_corner.specs.declared.LowCorner.{LowCorner}
 use Rattle.low_corner.specs.declared.LowCorner.TheVariants as low
-use Rattle.low_corner.specs.Low.{leg_low, low_leg, leg_start, corner_at, corner_of, low_of, low_corner}
+use Rattle.low_corner.specs.Low.{leg_low, low_leg, leg_start, corner_at, corner_of, low_of}
 
 abbrev pub is_low : LowCorner → Bool
 is_low low.None = false

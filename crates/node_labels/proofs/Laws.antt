@@ -1,7 +1,7 @@
 -- A node's label painted in a window: in a box, and between brackets.
 use Prim.Native.Nat.{ℕ, ◌+◌, ◌≤◌, ◌<◌}
 use mathlib.Core.Bool.{cond}
-use mathlib.Core.List.{List, [], ◌∷◌, ◌++◌}
+use mathlib.Core.List.{List, ◌∷◌, ◌++◌}
 use mathlib.Core.Path.{◌≡◌}
 use lib.Dec.{leb}
 use borrow.Author.Tests.{le-leb, lt-leb}

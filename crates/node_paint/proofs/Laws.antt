@@ -1,6 +1,6 @@
 -- Nodes painted in a window: a marker, no self-loop, and a node as it looks.
 use Prim.Native.Nat.{ℕ}
-use mathlib.Core.List.{List, [], ◌∷◌}
+use mathlib.Core.List.{List, ◌∷◌}
 use mathlib.Core.Path.{◌≡◌, sym}
 use Rattle.image.specs.declared.Node.{Node}
 use Rattle.image.specs.declared.SelfLoop.{SelfLoop}

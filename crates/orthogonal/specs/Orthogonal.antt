@@ -1,7 +1,7 @@
 -- "Orthogonal, both axes: skip repeated points; slanted legs paint no interior and give no marker. Markers as `orthogonal_markers`: one cell inside a leg
 -- of length ≥ 2, else the neighbouring bend, else none; target wins; drawn wherever the path passes that cell. Other bends get arms toward both
 -- neighbours, x compared first."
-use Rattle.std.specs.Prelude.{ℕ, ◌+◌, ◌-◌, min, max, Bool, cond, ◌&&◌, ◌||◌, List, [], ◌∷◌, leb, ltb, eqb}
+use Rattle.std.specs.Prelude.{ℕ, ◌+◌, ◌-◌, min, max, Bool, cond, ◌&&◌, ◌||◌, List, ◌∷◌, leb, ltb, eqb}
 use Rattle.ground.specs.Each.{numbers, each}
 use Rattle.cell.specs.declared.Weight.{Weight}
 use Rattle.cell.specs.declared.Weight.TheVariants as weight

@@ -1,5 +1,5 @@
 -- The points of a path: the source, the points between (two words each), the target. "skip repeated points": its stops.
-use Rattle.std.specs.Prelude.{ℕ, ◌+◌, ◌-◌, Bool, cond, ◌&&◌, List, [], ◌∷◌, map, length, get_or, leb, eqb}
+use Rattle.std.specs.Prelude.{ℕ, ◌+◌, ◌-◌, Bool, cond, ◌&&◌, List, ◌∷◌, map, length, get_or, leb, eqb}
 use Rattle.ground.specs.Each.{numbers}
 use Rattle.image.specs.declared.Edge.{Edge}
 use Rattle.image.specs.declared.Point.{Point}

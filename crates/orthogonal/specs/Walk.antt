@@ -1,6 +1,6 @@
 -- For the proofs alone: the cursor of the code's walk along an Orthogonal path. What it hands back is the legs between the path's stops (`leg-of-walk` of the
 -- proofs).
-use Rattle.std.specs.Prelude.{ℕ, zero, suc, ◌+◌, ◌-◌, Bool, true, false, cond, List, [], ◌∷◌, length}
+use Rattle.std.specs.Prelude.{ℕ, zero, suc, ◌+◌, ◌-◌, Bool, true, false, cond, List, ◌∷◌, length}
 use Rattle.image.specs.declared.Edge.{Edge}
 use Rattle.image.specs.declared.Point.{Point}
 use Rattle.flow.specs.Flow.{source_marker, target_marker}

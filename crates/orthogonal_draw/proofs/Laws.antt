@@ -1,8 +1,8 @@
 -- Drawing an Orthogonal path: a leg's bend is a cell and its interior a line, and its legs are drawn one by one along the walk.
 use native.Mathlib.Omega.{arith}
-use Prim.Native.Nat.{ℕ, ◌+◌, ◌-◌, ◌≤◌, ◌<◌}
+use Prim.Native.Nat.{ℕ, ◌+◌, ◌-◌}
 use mathlib.Core.Bool.{◌&&◌}
-use mathlib.Core.List.{List, [], ◌∷◌}
+use mathlib.Core.List.{List, ◌∷◌}
 use mathlib.Core.Path.{◌≡◌, ap}
 use lib.Dec.{eqb}
 use lib.ListN.{length}

@@ -1,10 +1,10 @@
 -- The rows of an Orthogonal path, point by point and without its arrows, are the rows of its pieces.
 use native.Mathlib.Omega.{arith}
 use native.Mathlib.Numerals.{add-one}
-use Prim.Native.Nat.{ℕ, zero, suc, ◌+◌, ◌-◌, ◌<◌, ◌≤◌}
+use Prim.Native.Nat.{ℕ, suc, ◌+◌, ◌-◌, ◌<◌, ◌≤◌}
 use mathlib.Core.Path.{◌≡◌, refl, sym, ◌∙◌, ap}
 use mathlib.Core.Bool.{Bool, true, false, ◌&&◌}
-use mathlib.Core.List.{List, [], ◌∷◌, map}
+use mathlib.Core.List.{List, ◌∷◌, map}
 use lib.Dec.{eqb}
 use lib.ListN.{length, drop}
 use borrow.Author.Tests.{eq-eqb, ne_eqb}
@@ -20,18 +20,17 @@ use Rattle.cell.specs.declared.Weight.{Weight}
 use Rattle.image.specs.declared.Edge.{Edge}
 use Rattle.image.specs.declared.Point.{Point}
 use Rattle.flow.specs.declared.Piece.{Piece}
-use Rattle.flow.specs.declared.Piece.TheVariants.{Nothing, Stroke}
 use Rattle.flow.specs.declared.Reach.{Reach}
 use Rattle.flow.specs.Flow.{line_of}
 use Rattle.flow.specs.Pieces.{piece_runs_in}
-use Rattle.flow.specs.Reach.{piece_rows, vertical_rows, horizontal_rows, piece_reach, join_reach, no_reach, reach_of}
+use Rattle.flow.specs.Reach.{piece_rows, vertical_rows, horizontal_rows, piece_reach, join_reach, reach_of}
 use Rattle.orthogonal.specs.declared.PathLeg.{PathLeg}
 use Rattle.orthogonal.specs.declared.EndMark.{EndMark}
 use Rattle.orthogonal.specs.declared.EndMark.TheVariants as end
 use Rattle.orthogonal_reach.specs.declared.Passed.{Passed}
 use Rattle.image.specs.Spans.{point_count, point_at}
-use Rattle.orthogonal.specs.Points.{source, target, path_point, path_points, same_point, stops_after, stops, stop_at, leg_count}
-use Rattle.orthogonal.specs.Orthogonal.{column_line, row_line, leg_line, bend_arms, mark_or, bend_piece, leg_bend_piece, leg_pieces, path_leg, source_mark, target_mark, pieces_along, orthogonal_pieces}
+use Rattle.orthogonal.specs.Points.{source, target, path_point, path_points, same_point, stops_after, stops, leg_count}
+use Rattle.orthogonal.specs.Orthogonal.{column_line, row_line, leg_line, mark_or, bend_piece, leg_bend_piece, leg_pieces, path_leg, source_mark, target_mark, pieces_along, orthogonal_pieces}
 use Rattle.orthogonal.specs.Walk.{points_left}
 use Rattle.orthogonal_reach.specs.Passing.{bend_rows, line_rows, pass_stop, pass_point, pass_points, pass_none}
 use Rattle.orthogonal.proofs.Laws.{between_point, last_point}

@@ -1,6 +1,6 @@
 -- For the proofs alone: how the code finds the rows of an Orthogonal path, point by point and without its arrows. (`passed-reach` of the proofs: they are the
 -- rows of its pieces.)
-use Rattle.std.specs.Prelude.{ℕ, Bool, true, false, cond, List, [], ◌∷◌, eqb}
+use Rattle.std.specs.Prelude.{ℕ, Bool, true, false, cond, List, ◌∷◌, eqb}
 use Rattle.rows.specs.declared.Rows.{Rows}
 use Rattle.rows.specs.declared.Rows.TheVariants as rows
 use Rattle.rows.specs.declared.Window.{Window}

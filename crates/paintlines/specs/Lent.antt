@@ -1,5 +1,5 @@
 -- What is lent for a request, and the checksum that stands for it in the short form.
-use Rattle.std.specs.Prelude.{ℕ, ◌+◌, ◌*◌, ◌%◌, List, [], ◌∷◌, map}
+use Rattle.std.specs.Prelude.{ℕ, ◌+◌, ◌*◌, ◌%◌, List, ◌∷◌, map}
 use Rattle.ground.specs.Each.{numbers}
 
 -- word i of lent buffer b holds 0x50000000 + 0x1000000 b + i

@@ -3,6 +3,7 @@ ghost use Rattle.std.specs.Prelude.{◌≤◌, length};
 ghost use Rattle.paintlines.specs.Request.{most_lent, most_output};
 
 use crate::{Request, buffer, say};
+use std::io;
 
 // The buffers as they stand before a request.
 fn fill_all(
@@ -24,24 +25,29 @@ fn fill_all(
 
 // Paints the band, and says code and place.
 fn paint_band(
+    rt: &impl Print,
     r: Request,
     image: &[u32],
     cells: &mut [u32],
     colours: &mut [u32],
     stamps: &mut [u32],
     scratch: &mut [u32],
-) {
+) -> io::Result<()> {
     let first = r.first;
     let rows = r.rows;
     if r.coloured {
-        say::outcome(paint::paint_coloured(image, first, rows, cells, colours, stamps, scratch));
+        say::outcome(
+            rt,
+            paint::paint_coloured(image, first, rows, cells, colours, stamps, scratch),
+        )
     } else {
-        say::outcome(paint::paint(image, first, rows, cells, scratch));
+        say::outcome(rt, paint::paint(image, first, rows, cells, scratch))
     }
 }
 
 // Paints the band and writes it as text, and says code, place and the number of bytes.
 fn write_band(
+    rt: &impl Print,
     r: Request,
     image: &[u32],
     cells: &mut [u32],
@@ -49,60 +55,71 @@ fn write_band(
     stamps: &mut [u32],
     scratch: &mut [u32],
     out: &mut [u8],
-) {
+) -> io::Result<()> {
     let first = r.first;
     let rows = r.rows;
     if r.coloured {
-        say::written(painttext::paint_text_coloured(
-            image, first, rows, cells, colours, stamps, scratch, out,
-        ));
+        say::written(
+            rt,
+            painttext::paint_text_coloured(
+                image, first, rows, cells, colours, stamps, scratch, out,
+            ),
+        )
     } else {
-        say::written(painttext::paint_text(image, first, rows, cells, scratch, out));
+        say::written(
+            rt,
+            painttext::paint_text(image, first, rows, cells, scratch, out),
+        )
     }
 }
 
 // Paints the whole sheet, and says code and place.
 fn paint_sheet(
+    rt: &impl Print,
     r: Request,
     image: &[u32],
     cells: &mut [u32],
     colours: &mut [u32],
     stamps: &mut [u32],
     scratch: &mut [u32],
-) {
+) -> io::Result<()> {
     let band = r.rows;
     if r.coloured {
-        say::outcome(paintsheet::paint_sheet_coloured(
-            image, band, cells, colours, stamps, scratch,
-        ));
+        say::outcome(
+            rt,
+            paintsheet::paint_sheet_coloured(image, band, cells, colours, stamps, scratch),
+        )
     } else {
-        say::outcome(paintsheet::paint_sheet(image, band, cells, scratch));
+        say::outcome(rt, paintsheet::paint_sheet(image, band, cells, scratch))
     }
 }
 
 // A line for each buffer that is lent.
 fn say_lent(
+    rt: &impl Print,
     r: Request,
     cells: &[u32],
     colours: &[u32],
     stamps: &[u32],
     scratch: &[u32],
     out: &[u8],
-) {
+) -> io::Result<()> {
     let short = r.short;
-    say::buffer(b"cells", cells, short);
+    say::buffer(rt, b"cells", cells, short)?;
     if r.coloured {
-        say::buffer(b"colours", colours, short);
-        say::buffer(b"stamps", stamps, short);
+        say::buffer(rt, b"colours", colours, short)?;
+        say::buffer(rt, b"stamps", stamps, short)?;
     }
-    say::buffer(b"scratch", scratch, short);
+    say::buffer(rt, b"scratch", scratch, short)?;
     if r.text {
-        say::output(out, short);
+        say::output(rt, out, short)?;
     }
+    Ok(())
 }
 
 // Makes the call that is asked for.
 fn call(
+    rt: &impl Print,
     r: Request,
     image: &[u32],
     cells: &mut [u32],
@@ -110,19 +127,18 @@ fn call(
     stamps: &mut [u32],
     scratch: &mut [u32],
     out: &mut [u8],
-) {
+) -> io::Result<()> {
     if r.text {
-        write_band(r, image, cells, colours, stamps, scratch, out);
-        return;
+        return write_band(rt, r, image, cells, colours, stamps, scratch, out);
     }
     if r.sheet {
-        paint_sheet(r, image, cells, colours, stamps, scratch);
-        return;
+        return paint_sheet(rt, r, image, cells, colours, stamps, scratch);
     }
-    paint_band(r, image, cells, colours, stamps, scratch);
+    paint_band(rt, r, image, cells, colours, stamps, scratch)
 }
 
 pub fn answer_in(
+    rt: &impl Print,
     r: Request,
     image: &[u32],
     cells: &mut [u32],
@@ -130,11 +146,11 @@ pub fn answer_in(
     stamps: &mut [u32],
     scratch: &mut [u32],
     out: &mut [u8],
-)
+) -> io::Result<()>
     requires cells_len_bound { (length cells.old ≤ most_lent) × (length colours.old ≤ most_lent) }
     requires stamps_len_bound { (length stamps.old ≤ most_lent) × (length scratch.old ≤ most_lent) × (length out.old ≤ most_output) }
 {
     fill_all(cells, colours, stamps, scratch, out);
-    call(r, image, cells, colours, stamps, scratch, out);
-    say_lent(r, cells, colours, stamps, scratch, out);
+    call(rt, r, image, cells, colours, stamps, scratch, out)?;
+    say_lent(rt, r, cells, colours, stamps, scratch, out)
 }

@@ -21,7 +21,7 @@
 ghost use Rattle.std.specs.Prelude.{◌*◌, ◌≤◌, length};
 ghost use Rattle.paintlines.specs.Request.{HasRoom, Fitting, Planes, Buffers};
 
-use libc::STDIN_FILENO;
+use std::io;
 
 mod answers;
 mod buffer;
@@ -169,11 +169,11 @@ fn asked(head: &[u32; HEAD_WORDS]) -> Next
     rows_wanted(request_of(head))
 }
 
-fn next_request() -> Next
+fn next_request<R: io::Read>(from: &mut R) -> Next
     ensures { Fitting result }
 {
     let mut bytes = [0u8; 4 * HEAD_WORDS];
-    let got = io::read_full(STDIN_FILENO, &mut bytes);
+    let got = input::read_full(from, &mut bytes);
     if got == 0 {
         return Next::End;
     }
@@ -186,11 +186,11 @@ fn next_request() -> Next
 }
 
 // Reads so many words of an image; and whether they are there.
-fn read_image(count: usize, bytes: &mut [u8], image: &mut [u32]) -> bool
+fn read_image<R: io::Read>(from: &mut R, count: usize, bytes: &mut [u8], image: &mut [u32]) -> bool
     requires { 4 * count ≤ length bytes.old }
 {
     let size = 4 * count;
-    let got = io::read_full(STDIN_FILENO, &mut bytes[..size]);
+    let got = input::read_full(from, &mut bytes[..size]);
     if got < size {
         return false;
     }
@@ -200,6 +200,7 @@ fn read_image(count: usize, bytes: &mut [u8], image: &mut [u32]) -> bool
 
 // Answers a request whose image was read, in parts of the buffers.
 fn answer_read(
+    rt: &impl Print,
     r: Request,
     image: &[u32],
     cells: &mut [u32],
@@ -207,7 +208,7 @@ fn answer_read(
     stamps: &mut [u32],
     scratch: &mut [u32],
     out: &mut [u8],
-)
+) -> io::Result<()>
     requires { HasRoom r × Planes cells.old colours.old stamps.old scratch.old out.old }
 {
     let cell_count = r.cells;
@@ -216,6 +217,7 @@ fn answer_read(
     let scratch_count = r.scratch;
     let byte_count = r.output;
     answers::answer_in(
+        rt,
         r,
         image,
         &mut cells[..cell_count],
@@ -223,11 +225,13 @@ fn answer_read(
         &mut stamps[..stamp_count],
         &mut scratch[..scratch_count],
         &mut out[..byte_count],
-    );
+    )
 }
 
 // Reads the image of a request and answers it; and whether the image could be read.
-fn answer(
+fn answer<R: io::Read>(
+    rt: &impl Print,
+    from: &mut R,
     r: Request,
     bytes: &mut [u8],
     image: &mut [u32],
@@ -236,20 +240,22 @@ fn answer(
     stamps: &mut [u32],
     scratch: &mut [u32],
     out: &mut [u8],
-) -> bool
+) -> io::Result<bool>
     requires { HasRoom r × Buffers bytes.old image.old cells.old colours.old stamps.old scratch.old out.old }
 {
     let words = r.words;
-    if !read_image(words, bytes, image) {
-        say::unread();
-        return false;
+    if !read_image(from, words, bytes, image) {
+        say::unread(rt)?;
+        return Ok(false);
     }
-    answer_read(r, &image[..words], cells, colours, stamps, scratch, out);
-    true
+    answer_read(rt, r, &image[..words], cells, colours, stamps, scratch, out)?;
+    Ok(true)
 }
 
 // Answers the next request; and whether there may be another.
-fn step(
+fn step<R: io::Read>(
+    rt: &impl Print,
+    from: &mut R,
     bytes: &mut [u8],
     image: &mut [u32],
     cells: &mut [u32],
@@ -257,22 +263,26 @@ fn step(
     stamps: &mut [u32],
     scratch: &mut [u32],
     out: &mut [u8],
-) -> bool
+) -> io::Result<bool>
     requires { Buffers bytes.old image.old cells.old colours.old stamps.old scratch.old out.old }
 {
-    let next = next_request();
+    let next = next_request(from);
     match next {
-        Next::Asked(r) => answer(r, bytes, image, cells, colours, stamps, scratch, out),
-        Next::End => false,
+        Next::Asked(r) => answer(
+            rt, from, r, bytes, image, cells, colours, stamps, scratch, out,
+        ),
+        Next::End => Ok(false),
         Next::Unread => {
-            say::unread();
-            false
+            say::unread(rt)?;
+            Ok(false)
         }
     }
 }
 
-// Answers the requests of the stream. A proved loop has to end, and nothing says that a stream does: the turns are counted down from a number that no stream uses up.
-fn answer_all(
+// Answers the requests of the stream. A proved loop has to end, and nothing says that a stream does: the turns are counted up to a number that no stream reaches.
+fn answer_all<R: io::Read>(
+    rt: &impl Print,
+    from: &mut R,
     bytes: &mut [u8],
     image: &mut [u32],
     cells: &mut [u32],
@@ -280,22 +290,21 @@ fn answer_all(
     stamps: &mut [u32],
     scratch: &mut [u32],
     out: &mut [u8],
-)
+) -> io::Result<()>
     requires { Buffers bytes.old image.old cells.old colours.old stamps.old scratch.old out.old }
 {
-    let mut turns = u64::MAX;
-    let mut more = true;
-    while more {
-        if turns == 0 {
-            return;
+    for _ in 0..u64::MAX {
+        if !step(rt, from, bytes, image, cells, colours, stamps, scratch, out)? {
+            return Ok(());
         }
-        more = step(bytes, image, cells, colours, stamps, scratch, out);
-        turns -= 1;
     }
+    Ok(())
 }
 
 // The buffers as slices. An array is handed on whole and becomes a slice here, where its length is known from its type: the prover would count a local array's elements.
-fn lend_all(
+fn lend_all<R: io::Read>(
+    rt: &impl Print,
+    from: &mut R,
     bytes: &mut [u8; 4 * MOST_WORDS],
     image: &mut [u32; MOST_WORDS],
     cells: &mut [u32; MOST_LENT],
@@ -303,11 +312,11 @@ fn lend_all(
     stamps: &mut [u32; MOST_LENT],
     scratch: &mut [u32; MOST_LENT],
     out: &mut [u8; MOST_OUTPUT],
-) {
-    answer_all(bytes, image, cells, colours, stamps, scratch, out);
+) -> io::Result<()> {
+    answer_all(rt, from, bytes, image, cells, colours, stamps, scratch, out)
 }
 
-fn main() {
+fn main(rt: HostRuntime) -> io::Result<()> {
     let mut bytes = [0u8; 4 * MOST_WORDS];
     let mut image = [0u32; MOST_WORDS];
     let mut cells = [0u32; MOST_LENT];
@@ -316,6 +325,8 @@ fn main() {
     let mut scratch = [0u32; MOST_LENT];
     let mut out = [0u8; MOST_OUTPUT];
     lend_all(
+        &rt,
+        &mut rt.stdin(),
         &mut bytes,
         &mut image,
         &mut cells,
@@ -323,5 +334,5 @@ fn main() {
         &mut stamps,
         &mut scratch,
         &mut out,
-    );
+    )
 }

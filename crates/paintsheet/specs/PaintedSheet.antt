@@ -1,5 +1,5 @@
 -- "a call that checks once and paints all rows with a stated band height", plain or coloured: what it answers, and each lent word afterwards.
-use Rattle.std.specs.Prelude.{ℕ, not, List, [], ◌∷◌, ◌≡◌, eqb, replicate}
+use Rattle.std.specs.Prelude.{ℕ, not, List, ◌∷◌, ◌≡◌, eqb, replicate}
 use Rattle.ground.specs.Judged.{Judged, judged}
 use Rattle.refusals.specs.declared.Verdict.{Verdict}
 use Rattle.refusals.specs.FirstBroken.{first_broken}

@@ -1,5 +1,5 @@
 -- "a call that paints a band and writes it as UTF-8 text", plain or coloured: what it answers, and each lent word and byte afterwards.
-use Rattle.std.specs.Prelude.{ℕ, List, [], ◌∷◌, ◌++◌, ◌≡◌, length, replicate, leb}
+use Rattle.std.specs.Prelude.{ℕ, List, ◌∷◌, ◌++◌, ◌≡◌, length, replicate, leb}
 use Rattle.ground.specs.Each.{numbers, each}
 use Rattle.ground.specs.Judged.{Judged, judged}
 use Rattle.refusals.specs.declared.Verdict.{Verdict}

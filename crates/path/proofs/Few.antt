@@ -1,7 +1,7 @@
 -- How many runs an edge has at most, so that no sum of runs wraps: a piece is at most one run, and the pieces are few for each point of the path.
 use native.Mathlib.Omega.{arith}
 use Prim.Native.Nat.{ℕ, zero, suc, ◌+◌, ◌-◌, ◌*◌, ◌≤◌, ◌<◌}
-use mathlib.Core.List.{List, [], ◌∷◌, map}
+use mathlib.Core.List.{List, ◌∷◌, map}
 use mathlib.Core.Path.{◌≡◌, refl}
 use lib.Dec.{eqb, leb}
 use lib.ListN.{length, length-append}

@@ -1,22 +1,16 @@
 -- What holds of an edge: the rows that the code answers are the first and the last row of the window that it touches, and the runs are its runs there.
 use Prim.Native.Nat.{ℕ}
-use mathlib.Core.Bool.{Bool, ◌||◌}
-use mathlib.Core.List.{List, [], ◌∷◌}
-use mathlib.Core.Path.{◌≡◌, refl, sym, ◌∙◌, ap}
-use Rattle.ground.specs.Each.{each, some}
-use Rattle.ground.proofs.Each.{some_each}
+use mathlib.Core.List.{List}
+use mathlib.Core.Path.{◌≡◌, sym, ◌∙◌, ap}
 use Rattle.image.specs.declared.Edge.{Edge}
 use Rattle.image.specs.declared.Path.{Path}
 use Rattle.rows.specs.declared.Window.{Window}
-use Rattle.rows.specs.Spots.{touches}
-use Rattle.rows.specs.Window.{touched_rows, FirstAndLast}
+use Rattle.rows.specs.Window.{FirstAndLast}
 use Rattle.rows.proofs.Windows.{touched_first_last}
-use Rattle.flow.specs.declared.Piece.{Piece}
 use Rattle.flow.specs.declared.Reach.{Reach}
-use Rattle.flow.specs.Pieces.{piece_spots, piece_run_on, piece_touches}
 use Rattle.flow.specs.Reach.{reach_of}
 use Rattle.flow.proofs.Theorems.{reach_rows, reach_runs}
-use Rattle.path.specs.Pieces.{pieces_of, pieces, edge_spots}
+use Rattle.path.specs.Pieces.{pieces_of, pieces}
 use Rattle.path.specs.Touched.{edge_touches, edge_runs, EdgeReached}
 
 -- What the pieces of an edge reach is what it touches, and its runs.

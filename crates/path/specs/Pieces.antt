@@ -1,5 +1,5 @@
 -- The pieces of an edge, in the order in which they are drawn, and what they make.
-use Rattle.std.specs.Prelude.{ℕ, ◌+◌, Bool, List, [], ◌∷◌, eqb}
+use Rattle.std.specs.Prelude.{ℕ, ◌+◌, Bool, List, ◌∷◌, eqb}
 use Rattle.ground.specs.Each.{numbers, each}
 use Rattle.image.specs.declared.Edge.{Edge}
 use Rattle.image.specs.declared.Point.{Point}

@@ -1,7 +1,7 @@
 -- Bands one after the other, however cut.
 use native.Mathlib.Omega.{arith}
 use Prim.Native.Nat.{ℕ, ◌+◌, ◌≤◌}
-use mathlib.Core.List.{List, [], ◌∷◌, ◌++◌, map}
+use mathlib.Core.List.{List, ◌∷◌, ◌++◌, map}
 use mathlib.Core.Path.{◌≡◌, refl, sym, ap, ◌∙◌}
 use Rattle.ground.specs.Each.{numbers, each}
 use Rattle.picture.specs.Picture.{height, picture_cells, picture_colours}

@@ -1,6 +1,6 @@
 -- A painted window is the picture's rows side by side, what lies beyond them stays, and how long they are.
 use Prim.Native.Nat.{ℕ, ◌+◌, ◌*◌, ◌≤◌, ◌<◌}
-use mathlib.Core.List.{List, [], ◌++◌, append-nil}
+use mathlib.Core.List.{List, ◌++◌, append-nil}
 use mathlib.Core.Path.{◌≡◌, refl, sym, ap, ap₂, ◌∙◌}
 use lib.ListN.{length, drop, length-replicate, take-append-drop}
 use lib.Seq.{drop_at}

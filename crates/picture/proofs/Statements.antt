@@ -1,7 +1,7 @@
 -- What the theorems say, where it takes more than an equation.
 use Prim.Native.Nat.{ℕ, ◌+◌, ◌*◌, ◌≤◌, ◌<◌}
 use mathlib.Core.Bool.{true}
-use mathlib.Core.List.{List, [], ◌∷◌, ◌++◌, map}
+use mathlib.Core.List.{List, ◌∷◌, ◌++◌, map}
 use mathlib.Core.Path.{◌≡◌}
 use lib.ListN.{length, take, drop, replicate}
 use Rattle.ground.specs.Each.{every}

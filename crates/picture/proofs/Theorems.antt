@@ -1,7 +1,7 @@
 -- What holds of the picture, and of every band that is painted.
 use native.Mathlib.Omega.{arith}
 use Prim.Native.Nat.{ℕ, ◌+◌, ◌≤◌, ◌<◌}
-use mathlib.Core.List.{List, []}
+use mathlib.Core.List.{List}
 use mathlib.Core.Path.{◌≡◌, refl, sym, ap, ◌∙◌}
 use lib.ListN.{length, length-replicate}
 use Rattle.cell.specs.declared.Parts.TheVariants.{Text}

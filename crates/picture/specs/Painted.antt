@@ -1,5 +1,5 @@
 -- What `paint` and `paint_coloured` answer, and each lent word afterwards: refused, and all as before; or the band.
-use Rattle.std.specs.Prelude.{ℕ, ◌+◌, ◌*◌, List, [], ◌∷◌, ◌++◌, length, drop, replicate, leb}
+use Rattle.std.specs.Prelude.{ℕ, ◌+◌, ◌*◌, List, ◌∷◌, ◌++◌, length, drop, replicate, leb}
 use Rattle.ground.specs.Judged.{Judged, judged}
 use Rattle.layout.specs.Layout.{header_runs, header_elements}
 use Rattle.layout.specs.Tables.{word}

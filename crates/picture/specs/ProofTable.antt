@@ -1,5 +1,5 @@
 -- Document 01's proof table, P1 to P10, in one statement; "edges are Light". P7 to P10 and the example of `sheetcells` are whole images.
-use Rattle.std.specs.Prelude.{ℕ, ◌≡◌, List, [], ◌∷◌, ◌++◌}
+use Rattle.std.specs.Prelude.{ℕ, ◌≡◌, List, ◌∷◌, ◌++◌}
 use Rattle.cell.specs.ProofTable.{ProofTableCell}
 use Rattle.canvas.specs.ProofTable.{ProofTableRow}
 use Rattle.picture.specs.Picture.{picture_row, picture_cells}

@@ -1,5 +1,5 @@
 -- What each thing of an image writes, by its index: ink with its colour and stamp, and the runs of an edge, which wait.
-use Rattle.std.specs.Prelude.{ℕ, ◌+◌, cond, List, [], eqb}
+use Rattle.std.specs.Prelude.{ℕ, ◌+◌, cond, List, eqb}
 use Rattle.ground.specs.Each.{numbers, each}
 use Rattle.layout.specs.declared.Tables.{Tables}
 use Rattle.image.specs.declared.Edge.{Edge}

@@ -1,6 +1,6 @@
 -- "a record field breaks its rule; an index or start + count leaves its table": for each kind of record the rules of its words, in order. `w` gives the
 -- record's word at an offset.
-use Rattle.std.specs.Prelude.{ℕ, Bool, cond, ◌&&◌, ◌||◌, List, [], ◌∷◌, eqb, ltb}
+use Rattle.std.specs.Prelude.{ℕ, Bool, cond, ◌&&◌, ◌||◌, List, ◌∷◌, eqb, ltb}
 use Rattle.layout.specs.declared.RecordKind.{RecordKind}
 use Rattle.layout.specs.declared.RecordKind.TheVariants as kind
 use Rattle.layout.specs.declared.Tables.{Tables}

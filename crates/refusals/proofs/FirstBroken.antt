@@ -1,15 +1,13 @@
 -- Rules in order: two lists of rules one after the other, what it means that none is broken, and which one is broken first.
 use native.Mathlib.Omega.{arith}
 use Prim.Native.Nat.{ℕ}
-use mathlib.Core.Bool.{Bool, true, false, ◌&&◌}
-use mathlib.Core.List.{List, [], ◌∷◌, ◌++◌}
-use mathlib.Core.Logic.{◌↔◌}
-use mathlib.Core.Path.{◌≡◌, refl, sym, ◌∙◌, ap}
+use mathlib.Core.Bool.{true}
+use mathlib.Core.List.{List, ◌∷◌, ◌++◌}
+use mathlib.Core.Path.{◌≡◌, refl, sym, ap}
 use Rattle.ground.specs.declared.Found.{Found}
 use Rattle.ground.specs.declared.Found.TheVariants as found
-use Rattle.ground.specs.First.{or_else}
 use Rattle.ground.specs.Each.{every}
-use Rattle.ground.specs.Judged.{Judged, judged, first_bad, FirstBad}
+use Rattle.ground.specs.Judged.{Judged, first_bad}
 use Rattle.ground.proofs.Each.{and_left, and_right, and_both}
 use Rattle.ground.proofs.Judged.{first_bad_lem, none_bad, all_good, bad_first}
 use Rattle.refusals.specs.declared.Answer.{Answer}

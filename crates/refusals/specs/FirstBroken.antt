@@ -1,5 +1,5 @@
 -- Rules in order: the first that is broken answers its code and the place of the first thing that breaks it.
-use Rattle.std.specs.Prelude.{ℕ, Bool, true, List, [], ◌∷◌, ◌++◌, ◌≡◌}
+use Rattle.std.specs.Prelude.{ℕ, Bool, true, List, ◌∷◌, ◌++◌, ◌≡◌}
 use Rattle.ground.specs.declared.Found.{Found}
 use Rattle.ground.specs.declared.Found.TheVariants as found
 use Rattle.ground.specs.Each.{every}

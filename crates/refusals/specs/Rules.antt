@@ -1,5 +1,5 @@
 -- "Refusals in order": the rules in a list, each with its code and with what it looks at, and what check answers.
-use Rattle.std.specs.Prelude.{ℕ, List, [], ◌∷◌, ◌++◌, eqb, leb, length}
+use Rattle.std.specs.Prelude.{ℕ, List, ◌∷◌, ◌++◌, eqb, leb, length}
 use Rattle.ground.specs.Judged.{Judged, judged}
 use Rattle.glyph.specs.Ranges.{judged_ranges}
 use Rattle.layout.specs.declared.Tables.{Tables}

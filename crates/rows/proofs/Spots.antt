@@ -2,15 +2,14 @@
 use native.Mathlib.Omega.{arith}
 use Prim.Native.Nat.{ℕ, zero, suc, ◌+◌, ◌-◌, ◌≤◌, ◌<◌, min, max}
 use mathlib.Core.Bool.{Bool, true, false, ◌&&◌, ◌||◌, and-true, and-false, or-false}
-use mathlib.Core.List.{List, [], ◌∷◌, ◌++◌, map}
-use mathlib.Core.Path.{◌≡◌, refl, sym, ◌∙◌, ap}
+use mathlib.Core.List.{List, ◌∷◌, ◌++◌, map}
+use mathlib.Core.Path.{◌≡◌, refl, sym, ◌∙◌}
 use lib.Dec.{leb, ltb, eqb}
 use borrow.Author.Tests.{le-leb, lt-leb, lt-ltb, le-ltb, eq-eqb, ne_eqb}
 use Rattle.ground.specs.Each.{numbers, between, each, some}
 use Rattle.ground.proofs.Order.{by_order}
 use Rattle.ground.proofs.Each.{some_append, some_each}
-use Rattle.rows.specs.declared.Rows.{Rows}
-use Rattle.rows.specs.declared.Rows.TheVariants.{None, From}
+use Rattle.rows.specs.declared.Rows.TheVariants.{None}
 use Rattle.rows.specs.declared.Window.{Window}
 use Rattle.rows.specs.Spots.{Ink, Spot, at, inks, spot_touches, touches}
 use Rattle.rows.specs.Window.{join_rows, touched_rows}

@@ -1,6 +1,6 @@
 -- For the proofs alone: how the code finds rows of a window. (`window-rows` of the proofs: they are the first and the last of the rows from a to b that
 -- the window has.)
-use Rattle.std.specs.Prelude.{ℕ, suc, ◌+◌, ◌-◌, min, max, Bool, true, cond, ◌&&◌, leb, ltb}
+use Rattle.std.specs.Prelude.{ℕ, ◌+◌, ◌-◌, min, max, Bool, true, cond, ◌&&◌, leb, ltb}
 use Rattle.rows.specs.declared.Rows.{Rows}
 use Rattle.rows.specs.declared.Rows.TheVariants.{None, From}
 use Rattle.rows.specs.declared.Window.{Window}

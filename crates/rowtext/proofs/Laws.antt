@@ -2,14 +2,13 @@
 use native.Mathlib.Omega.{arith}
 use native.Mathlib.Numerals.{add-one}
 use native.Mathlib.Nat.{mul-le-mul_left, mul-suc}
-use Prim.Native.Nat.{ℕ, zero, suc, ◌+◌, ◌*◌, ◌-◌, ◌≤◌, ◌<◌, min}
+use Prim.Native.Nat.{ℕ, suc, ◌+◌, ◌*◌, ◌-◌, ◌≤◌, ◌<◌}
 use mathlib.Core.Path.{◌≡◌, refl, sym, ap, ◌∙◌}
-use mathlib.Core.List.{List, [], ◌∷◌, ◌++◌}
-use lib.ListN.{length, get_or, take, drop, length-drop, drop_of_length-le}
-use lib.Seq.{drop-cons, drop-drop, get_or-drop, take_all}
+use mathlib.Core.List.{List, ◌∷◌, ◌++◌}
+use lib.ListN.{length, get_or, take, drop, drop_of_length-le}
+use lib.Seq.{drop-cons, drop-drop, get_or-drop}
 use borrow.Author.Tests.{ne_eqb, eq-eqb}
 use Rattle.ground.specs.Each.{numbers, each}
-use Rattle.ground.proofs.Order.{by_order}
 use Rattle.cell.specs.OneCell.{read}
 use Rattle.shapes.specs.declared.Shape.{Shape}
 use Rattle.shapes.specs.declared.Shape.TheVariants.{Nothing, Character}
@@ -124,42 +123,6 @@ module _ (at : ℕ) (row colours start : List ℕ) (fits : at + length (coloured
   pub row_put : (next : ℕ) (after : List ℕ) → length row ≤ x → Put end (coloured_from now [] []) out next after → Put at (coloured_row row colours) start next after
   row_put next after h p =
       last_put at (coloured_row row colours) start end next _ out after i (put_as end next _ _ out after (none_left now x row colours h) p)
-
--- a part of a plane, as far as it goes
-
-take_none : (n : ℕ) → ◌≡◌ {A = List ℕ} [] (take n [])
-take_none zero = refl
-take_none (suc n) = refl
-
-pub part_there :
-    (plane : List ℕ) (start end from to width : ℕ) → end ≡ start + width → from ≡ min start (length plane) → to ≡ min end (length plane) →
-    take (to - from) (drop from plane) ≡ take width (drop start plane)
-part_there plane start end from to width e f t =
-    by_order (length plane) start
-    (λ beyond.
-    let none : to - from ≡ 0 = omega arith in
-    let past : length plane ≤ start = omega arith in
-    rw (none, drop_of_length-le plane past) (take_none width))
-    (λ inside.
-    let begun : from ≡ start = omega arith in
-    by_order (length plane) end
-    (λ short.
-    let left : length (drop start plane) ≡ length plane - start = length-drop start plane in
-    rw begun (take_all (to - start) (drop start plane) (omega arith) ∙ sym (take_all width (drop start plane) (omega arith))))
-    (λ long.
-    let all : to - start ≡ width = omega arith in
-    rw (begun, all)))
-
--- so a row of the cells, with the colours that are there, is that row of the planes
-pub part_row :
-    (cells colours : List ℕ) (start end from to width : ℕ) → end ≡ start + width → from ≡ min start (length colours) → to ≡ min end (length colours) →
-    coloured_row (take (end - start) (drop start cells)) (take (to - from) (drop from colours)) ≡ coloured_row (take width (drop start cells)) (take width (drop start colours))
-part_row cells colours start end from to width e f t =
-    let size : end - start ≡ width = omega arith in
-    rw (size, part_there colours start end from to width e f t)
-
-pub same_room : (at room : ℕ) (one text : List ℕ) → one ≡ text → at + length text ≤ room → at + length one ≤ room
-same_room at room one text e fits = rw e fits
 
 -- A turn of the loop over a band: the rows from r on are left.
 module _ (width rows : ℕ) (cells colours start : List ℕ) (fits : length (band_text width rows cells colours) ≤ length start) (r end first : ℕ) (out : List ℕ) (same : length out ≡ length start)

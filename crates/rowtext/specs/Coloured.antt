@@ -1,5 +1,5 @@
 -- "The coloured form writes ECMA-48 sequences only where a written cell's colour changes, each row starting and ending at 0".
-use Rattle.std.specs.Prelude.{ℕ, ◌+◌, ◌*◌, Bool, true, false, cond, List, [], ◌∷◌, ◌++◌, eqb, get_or, take, drop}
+use Rattle.std.specs.Prelude.{ℕ, ◌+◌, ◌*◌, Bool, true, false, cond, List, ◌∷◌, ◌++◌, eqb, get_or, take, drop}
 use Rattle.ground.specs.Each.{numbers, each}
 use Rattle.cell.specs.OneCell.{read}
 use Rattle.shapes.specs.declared.Shape.{Shape}

@@ -1,5 +1,5 @@
 -- "A continuation writes nothing, empty writes a space, each row ends in one line feed."
-use Rattle.std.specs.Prelude.{ℕ, ◌+◌, ◌*◌, List, [], ◌∷◌, ◌++◌}
+use Rattle.std.specs.Prelude.{ℕ, ◌+◌, ◌*◌, List, ◌∷◌, ◌++◌}
 use Rattle.ground.specs.Each.{each}
 use Rattle.cell.specs.OneCell.{read}
 use Rattle.shapes.specs.declared.Shape.{Shape}

@@ -1,6 +1,6 @@
 -- For the proofs alone: how the runs lie in the lent scratch, 8 words for each: a link, row, first column, last column, weight, number, colour, and a spare
 -- word; and how the code goes over them.
-use Rattle.std.specs.Prelude.{ℕ, zero, suc, ◌+◌, ◌-◌, ◌*◌, ◌/◌, ◌%◌, ◌≤◌, ◌<◌, min, max, cond, ◌≡◌, List, [], ◌∷◌, ◌++◌, length, get_or, set, take, eqb, ltb}
+use Rattle.std.specs.Prelude.{ℕ, zero, suc, ◌+◌, ◌-◌, ◌*◌, ◌/◌, ◌%◌, ◌≤◌, ◌<◌, min, max, cond, ◌≡◌, List, ◌∷◌, ◌++◌, length, get_or, set, take, eqb, ltb}
 use Rattle.ground.specs.Turns.{turns}
 use Rattle.rows.specs.declared.Window.{Window}
 use Rattle.rows.specs.Window.{in_window}

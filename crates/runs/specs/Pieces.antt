@@ -1,5 +1,5 @@
 -- "Runs wait": those of a piece of an edge with this number.
-use Rattle.std.specs.Prelude.{ℕ, List, [], ◌∷◌}
+use Rattle.std.specs.Prelude.{ℕ, List, ◌∷◌}
 use Rattle.cell.specs.OneCell.{weight_number}
 use Rattle.image.specs.declared.Edge.{Edge}
 use Rattle.flow.specs.declared.Piece.{Piece}

@@ -1,6 +1,6 @@
 -- "Runs wait: each inked cell gets left and right arms of the heaviest covering weight, and takes the colour of the highest-numbered covering edge only if
 -- that number exceeds the stamp." The weight of a run is its number (1 Dashed, 2 Light, 3 Double), its edge's number is the edge's index + 1.
-use Rattle.std.specs.Prelude.{ℕ, max, Bool, cond, ◌&&◌, List, [], ◌∷◌, length, get_or, set, eqb, leb, ltb}
+use Rattle.std.specs.Prelude.{ℕ, max, Bool, cond, ◌&&◌, List, ◌∷◌, length, get_or, set, eqb, leb, ltb}
 use Rattle.ground.specs.Turns.{turns}
 use Rattle.cell.specs.OneCell.{weight_of, horizontal}
 use Rattle.canvas.specs.Row.{stroke_row}

@@ -3,9 +3,9 @@ use native.Mathlib.Omega.{arith}
 use native.Mathlib.Numerals.{add-one}
 use Prim.Native.Nat.{ℕ, suc, ◌+◌, ◌/◌, ◌%◌, ◌≤◌, ◌<◌}
 use mathlib.Core.Path.{◌≡◌, refl, sym, ap}
-use mathlib.Core.List.{List, [], ◌∷◌, ◌++◌}
+use mathlib.Core.List.{List, ◌∷◌, ◌++◌}
 use lib.ListN.{length, get_or, set, take}
-use lib.Seq.{take-suc, take_all, length-take-le}
+use lib.Seq.{take-suc, length-take-le}
 use borrow.Author.Tests.{lt-ltb, le-ltb, ne_eqb}
 use Rattle.utf8.specs.Utf8.{written_at}
 use Rattle.utf8.proofs.Written.{Put, put_nothing, put_both, put_byte, put_stored, fits_first, fits_then}
@@ -24,9 +24,6 @@ module _ (bytes start out : List ℕ) (at k : ℕ) (i : out ≡ written_at at (t
       let long : at + k ≡ at + length (take k bytes) = ap (λ (n : ℕ). at + n) (sym (length-take-le k bytes (omega arith))) in
       rw (add-one k, take-suc bytes k 0 h)
       (put_both at (at + k) (at + k + 1) (take k bytes) (get_or bytes k 0 ∷ []) start out _ (omega arith) (long, i) (put_byte (at + k) (get_or bytes k 0) out (omega arith))).1
-
-  pub bytes_done : k ≤ length bytes → length bytes ≤ k → Put at bytes start (at + k) out
-  bytes_done l h = (omega arith, rw (take_all k bytes h) at i)
 
 -- a number's digits
 

@@ -1,6 +1,6 @@
 -- "Box Drawing characters (U+2500 to U+257F)": the characters of the block whose arms all have weights of ours, with
 -- these arms, as their Unicode names say. Single is Light. Left out are those with a heavy arm, and the three diagonals.
-use Rattle.std.specs.Prelude.{ℕ, List, [], ◌∷◌}
+use Rattle.std.specs.Prelude.{ℕ, List, ◌∷◌}
 use Rattle.cell.specs.declared.Weight.{Weight}
 use Rattle.cell.specs.declared.Weight.TheVariants.{None, Dashed, Light, Double}
 use Rattle.cell.specs.declared.Arms.{Arms}

@@ -1,7 +1,7 @@
 -- "Strokes become Box Drawing characters .. by a table over the four arms, one with just those arms and weights where
 -- the block has it; docs/ lists the ones chosen where the block has none, and for self-loop and dummy; arrows become
 -- U+2191, 2193, 2190 and 2192."
-use Rattle.std.specs.Prelude.{ℕ, ◌+◌, ◌*◌, ◌/◌, ◌%◌, ◌≤◌, Bool, true, false, cond, ◌&&◌, List, [], ◌∷◌, ◌≡◌, eqb}
+use Rattle.std.specs.Prelude.{ℕ, ◌+◌, ◌*◌, ◌/◌, ◌%◌, ◌≤◌, Bool, true, false, cond, ◌&&◌, List, ◌∷◌, ◌≡◌, eqb}
 use Rattle.ground.specs.Each.{numbers, each, some}
 use Rattle.cell.specs.declared.Weight.{Weight}
 use Rattle.cell.specs.declared.Weight.TheVariants.{None, Light, Double}

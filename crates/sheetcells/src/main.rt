@@ -12,6 +12,7 @@ ghost use Rattle.sheetcells.specs.Bands.{band_rows, band_cells};
 use image_input::Image;
 use layout::{HEADER_HEIGHT, HEADER_WIDTH, MAX_WIDTH, word};
 use refusals::Verdict;
+use std::io;
 
 mod say;
 
@@ -40,105 +41,129 @@ fn row_start(width: usize, rows: usize, k: usize) -> usize
 }
 
 // A line for each of so many rows, which the cells begin with.
-fn print_lines(cells: &[u32], width: usize, rows: usize)
+fn print_lines(rt: &impl Print, cells: &[u32], width: usize, rows: usize) -> io::Result<()>
     requires { (width * rows ≤ band_cells) × (length cells.now ≡ band_cells) }
 {
     let mut k: usize = 0;
     while k < rows {
         let from = row_start(width, rows, k);
         let to = from + width;
-        say::row(&cells[from..to]);
+        say::row(rt, &cells[from..to])?;
         k += 1;
     }
+    Ok(())
 }
 
 // Paints so many rows of an accepted image from a first one on, and prints them. The cells have room for the widest band, and the scratch has as much as the image wants: nothing is refused.
 fn print_band(
+    rt: &impl Print,
     image: &[u32],
     first: usize,
     rows: usize,
     width: usize,
     cells: &mut [u32],
     scratch: &mut [u32],
-)
+) -> io::Result<()>
     requires keeps { Keeps image.now × (width ≡ picture.width image.now) × (first + rows ≤ picture.height image.now) × (scratch_room image.now ≤ length scratch.old) }
     requires rows_le_band_rows { (rows ≤ band_rows) × (length cells.old ≡ band_cells) }
 {
     paint::accepted::paint_plain(image, first, rows, cells, scratch);
-    print_lines(cells, width, rows);
+    print_lines(rt, cells, width, rows)
 }
 
 // All rows, band after band.
-fn print_rows(image: &[u32], width: usize, height: usize, cells: &mut [u32], scratch: &mut [u32])
+fn print_rows(
+    rt: &impl Print,
+    image: &[u32],
+    width: usize,
+    height: usize,
+    cells: &mut [u32],
+    scratch: &mut [u32],
+) -> io::Result<()>
     requires { Keeps image.now × (width ≡ picture.width image.now) × (height ≡ picture.height image.now) × (scratch_room image.now ≤ length scratch.old) × (length cells.old ≡ band_cells) }
 {
     let mut first: usize = 0;
     while first < height {
         let rows = ground::min(BAND_ROWS, height - first);
-        print_band(image, first, rows, width, cells, scratch);
+        print_band(rt, image, first, rows, width, cells, scratch)?;
         first += rows;
     }
+    Ok(())
 }
 
 // Prints an accepted image band after band, or that the scratch is short for it: a band of no rows wants nothing else.
-fn print_bands(image: &[u32], runs: usize, cells: &mut [u32], scratch: &mut [u32])
+fn print_bands(
+    rt: &impl Print,
+    image: &[u32],
+    runs: usize,
+    cells: &mut [u32],
+    scratch: &mut [u32],
+) -> io::Result<()>
     requires { Keeps image.now × (length cells.old ≡ band_cells) }
 {
     let tried = lending::check_plain(image, 0, 0, cells, scratch);
     if let Verdict::Refused { code, place } = tried {
-        say::refused(code, place);
-        return;
+        return say::refused(rt, code, place);
     }
     let width = ground::number(word(image, HEADER_WIDTH));
     let height = ground::number(word(image, HEADER_HEIGHT));
-    say::sheet(width, height, runs);
-    print_rows(image, width, height, cells, scratch);
+    say::sheet(rt, width, height, runs)?;
+    print_rows(rt, image, width, height, cells, scratch)
 }
 
 // Prints a sheet all of whose rows are in the cells.
-fn print_whole(image: &[u32], runs: usize, cells: &[u32])
+fn print_whole(rt: &impl Print, image: &[u32], runs: usize, cells: &[u32]) -> io::Result<()>
     requires { (picture.width image.now * picture.height image.now ≤ band_cells) × (length cells.now ≡ band_cells) }
 {
     let width = ground::number(word(image, HEADER_WIDTH));
     let height = ground::number(word(image, HEADER_HEIGHT));
-    say::sheet(width, height, runs);
-    print_lines(cells, width, height);
+    say::sheet(rt, width, height, runs)?;
+    print_lines(rt, cells, width, height)
 }
 
 // Prints an accepted image. What the call for a whole sheet refuses of it is for lack of room, and bands want less of that.
-fn print_accepted(image: &[u32], runs: usize, cells: &mut [u32], scratch: &mut [u32])
+fn print_accepted(
+    rt: &impl Print,
+    image: &[u32],
+    runs: usize,
+    cells: &mut [u32],
+    scratch: &mut [u32],
+) -> io::Result<()>
     requires { Keeps image.now × (length cells.old ≡ band_cells) }
 {
     let painted = paintsheet::paint_sheet(image, SWEPT_ROWS, cells, scratch);
     if painted.code == 0 {
-        print_whole(image, runs, cells);
+        print_whole(rt, image, runs, cells)
     } else {
-        print_bands(image, runs, cells, scratch);
+        print_bands(rt, image, runs, cells, scratch)
     }
 }
 
-fn print_image(image: &[u32]) {
+fn print_image(rt: &impl Print, image: &[u32]) -> io::Result<()> {
     let answer = refusals::check(image);
     if answer.code != 0 {
-        say::refused(answer.code, answer.place);
-        return;
+        return say::refused(rt, answer.code, answer.place);
     }
     let mut cells = [0u32; BAND_CELLS];
     let mut scratch = [0u32; SCRATCH_WORDS];
-    print_accepted(image, answer.runs, &mut cells, &mut scratch);
+    print_accepted(rt, image, answer.runs, &mut cells, &mut scratch)
 }
 
-fn print_input(bytes: &mut [u8], words: &mut [u32]) {
-    let came = image_input::read_image(bytes, words);
+fn print_input<R: io::Read>(
+    rt: &impl Print,
+    from: &mut R,
+    bytes: &mut [u8],
+    words: &mut [u32],
+) -> io::Result<()> {
+    let came = image_input::read_image(from, bytes, words);
     let Image::Words(count) = came else {
-        say::unread();
-        return;
+        return say::unread(rt);
     };
-    print_image(&words[..count]);
+    print_image(rt, &words[..count])
 }
 
-fn main() {
+fn main(rt: HostRuntime) -> io::Result<()> {
     let mut bytes = [0u8; 4 * MOST_WORDS + 1];
     let mut words = [0u32; MOST_WORDS];
-    print_input(&mut bytes, &mut words);
+    print_input(&rt, &mut rt.stdin(), &mut bytes, &mut words)
 }

@@ -1,39 +1,39 @@
 // Lines on standard output.
 use layout::MAX_WIDTH;
-use libc::STDOUT_FILENO;
+use std::io;
 
-fn text(bytes: &[u8]) {
-    io::write_all(STDOUT_FILENO, bytes);
+fn text(rt: &impl Print, bytes: &[u8]) -> io::Result<()> {
+    rt.write_all(bytes)
 }
 
 // A number after the words that say what it is.
-fn count(words: &[u8], n: usize) {
-    text(words);
-    io::print_decimal(STDOUT_FILENO, n as u64);
+fn count(rt: &impl Print, words: &[u8], n: usize) -> io::Result<()> {
+    text(rt, words)?;
+    rt.print(n)
 }
 
-pub fn unread() {
-    text(b"unread\n");
+pub fn unread(rt: &impl Print) -> io::Result<()> {
+    text(rt, b"unread\n")
 }
 
-pub fn refused(code: u32, place: usize) {
-    count(b"refused ", ground::number(code));
-    count(b" ", place);
-    text(b"\n");
+pub fn refused(rt: &impl Print, code: u32, place: usize) -> io::Result<()> {
+    count(rt, b"refused ", ground::number(code))?;
+    count(rt, b" ", place)?;
+    text(rt, b"\n")
 }
 
-pub fn sheet(width: usize, height: usize, runs: usize) {
-    count(b"sheet ", width);
-    count(b" ", height);
-    count(b" runs ", runs);
-    text(b"\n");
+pub fn sheet(rt: &impl Print, width: usize, height: usize, runs: usize) -> io::Result<()> {
+    count(rt, b"sheet ", width)?;
+    count(rt, b" ", height)?;
+    count(rt, b" runs ", runs)?;
+    text(rt, b"\n")
 }
 
 // "a line per row, each cell eight upper-case hex digits, single-spaced": the last space is left out.
-pub fn row(cells: &[u32]) {
+pub fn row(rt: &impl Print, cells: &[u32]) -> io::Result<()> {
     let mut spelled = [0u8; hexrow::WORD_BYTES * MAX_WIDTH as usize];
     let size = hexrow::spell(cells, &mut spelled);
     let shown = ground::minus(size, 1);
-    text(&spelled[..shown]);
-    text(b"\n");
+    text(rt, &spelled[..shown])?;
+    text(rt, b"\n")
 }

@@ -8,6 +8,7 @@ use ground::Found;
 use image::ElementKind;
 use image_input::{Image, MOST_WORDS};
 use layout::{FieldName, HEADER_HEIGHT, HEADER_RUNS, HEADER_WIDTH, MAX_THINGS, RecordKind, word};
+use std::io;
 
 mod faults;
 mod names;
@@ -20,201 +21,231 @@ const RECORD_LIMIT: usize = layout::MAX_GLYPHS as usize + 1;
 // More than the words of any record.
 const FIELD_LIMIT: usize = layout::EDGE_SIZE + 1;
 
-fn explain_length(length: usize, wanted: usize) {
+fn explain_length(rt: &impl Print, length: usize, wanted: usize) -> io::Result<()> {
     if length < wanted {
         say::form(
+            rt,
             b"the image has % word+; its header and tables want %, which is % more\n",
             length,
             wanted,
             wanted - length,
             0,
-        );
+        )
     } else {
         say::form(
+            rt,
             b"the image has % word+; its header and tables want %, which is % fewer\n",
             length,
             wanted,
             length - wanted,
             0,
-        );
+        )
     }
 }
 
-fn explain_runs(image: &[u32]) {
+fn explain_runs(rt: &impl Print, image: &[u32]) -> io::Result<()> {
     let ts = layout::tables_of(image);
     let edges = ts.edges;
     if edges.count <= ground::number(MAX_THINGS) {
         say::form(
+            rt,
             b"header, run capacity: holds %; must be at least %, the number of runs on rows of the sheet\n",
             ground::number(word(image, HEADER_RUNS)),
             things::run_count(image, ts),
             0,
             0,
-        );
+        )?;
     }
+    Ok(())
 }
 
 // Glyph k, which is a control character.
-fn explain_control(image: &[u32], k: usize)
+fn explain_control(rt: &impl Print, image: &[u32], k: usize) -> io::Result<()>
     requires { k < 4294967296 }
 {
     let value = finding::field_of(image, RecordKind::Glyph, k, layout::GLYPH_VALUE);
-    faults::control(value, glyph_owner::owner_of(image, k));
+    faults::control(rt, value, glyph_owner::owner_of(image, k))
 }
 
 // Element k, which lists a thing that is listed already.
-fn explain_twice(image: &[u32], k: usize)
+fn explain_twice(rt: &impl Print, image: &[u32], k: usize) -> io::Result<()>
     requires { k < 4294967296 }
 {
     let listed = element(image, k);
     let kind = listed.kind;
     let number = image::element_kind_number(kind);
     let lister = finding::lister_of(image, number, ground::number(listed.index));
-    faults::twice(number, listed.index, lister);
+    faults::twice(rt, number, listed.index, lister)
 }
 
 // Element k, whose rows are out of order.
-fn explain_order(image: &[u32], k: usize)
+fn explain_order(rt: &impl Print, image: &[u32], k: usize) -> io::Result<()>
     requires { k < 4294967296 }
 {
     let own = element(image, k);
     let order = finding::order_faults(image, k);
-    faults::order(own.first_row, own.last_row, order, k);
+    faults::order(rt, own.first_row, own.last_row, order, k)
 }
 
 // How a thing is listed.
-fn explain_listing(image: &[u32], kind: ElementKind, index: usize) {
+fn explain_listing(
+    rt: &impl Print,
+    image: &[u32],
+    kind: ElementKind,
+    index: usize,
+) -> io::Result<()> {
     let lister = finding::lister_of(image, image::element_kind_number(kind), index);
     let Found::At(k) = lister else {
-        say::text(b"; no element lists it, and one must list both");
-        return;
+        return say::text(rt, b"; no element lists it, and one must list both");
     };
     if k < RECORD_LIMIT {
         let own = element(image, k);
-        faults::listed(k, own.first_row, own.last_row);
+        faults::listed(rt, k, own.first_row, own.last_row)?;
     }
+    Ok(())
 }
 
 // A thing that touches a row which its listing lacks.
-fn explain_thing(image: &[u32], kind: ElementKind, index: usize)
+fn explain_thing(rt: &impl Print, image: &[u32], kind: ElementKind, index: usize) -> io::Result<()>
     requires { index < 4294967296 }
 {
-    faults::touched(finding::touched(image, kind, index));
-    explain_listing(image, kind, index);
+    faults::touched(rt, finding::touched(image, kind, index))?;
+    explain_listing(rt, image, kind, index)
 }
 
 // What breaks code 9, by its table.
-fn explain_touched(image: &[u32], kind: RecordKind, index: usize)
+fn explain_touched(rt: &impl Print, image: &[u32], kind: RecordKind, index: usize) -> io::Result<()>
     requires { index < 4294967296 }
 {
     match kind {
-        RecordKind::Node => explain_thing(image, ElementKind::Node, index),
-        RecordKind::Edge => explain_thing(image, ElementKind::Edge, index),
-        _ => explain_thing(image, ElementKind::Subgraph, index),
+        RecordKind::Node => explain_thing(rt, image, ElementKind::Node, index),
+        RecordKind::Edge => explain_thing(rt, image, ElementKind::Edge, index),
+        _ => explain_thing(rt, image, ElementKind::Subgraph, index),
     }
 }
 
 // Record k of a kind, of which this field breaks code 4 or which breaks another code.
-fn explain_record(image: &[u32], code: u32, kind: RecordKind, k: usize, field: usize)
+fn explain_record(
+    rt: &impl Print,
+    image: &[u32],
+    code: u32,
+    kind: RecordKind,
+    k: usize,
+    field: usize,
+) -> io::Result<()>
     requires { (k < 4294967296) × (field ≤ 16) }
 {
-    say::form(b"~ %", names::kind_number(kind), k, 0, 0);
+    say::form(rt, b"~ %", names::kind_number(kind), k, 0, 0)?;
     match code {
-        refusals::BAD_FIELD => words::explain(image, kind, k, field),
-        refusals::BAD_RANGE => faults::range(finding::range_faults(image, k), k),
-        refusals::CONTROL_CHARACTER => explain_control(image, k),
-        refusals::CORNER_BELOW_ZERO => faults::corner(low_corner::low_corner(image, k)),
-        refusals::LISTED_TWICE => explain_twice(image, k),
-        refusals::OUT_OF_ORDER => explain_order(image, k),
-        _ => explain_touched(image, kind, k),
-    }
-    say::text(b"\n");
+        refusals::BAD_FIELD => words::explain(rt, image, kind, k, field),
+        refusals::BAD_RANGE => faults::range(rt, finding::range_faults(image, k), k),
+        refusals::CONTROL_CHARACTER => explain_control(rt, image, k),
+        refusals::CORNER_BELOW_ZERO => faults::corner(rt, low_corner::low_corner(image, k)),
+        refusals::LISTED_TWICE => explain_twice(rt, image, k),
+        refusals::OUT_OF_ORDER => explain_order(rt, image, k),
+        _ => explain_touched(rt, image, kind, k),
+    }?;
+    say::text(rt, b"\n")
 }
 
 // The record that a refusal's place is in.
-fn explain_place(image: &[u32], code: u32, place: usize) {
+fn explain_place(rt: &impl Print, image: &[u32], code: u32, place: usize) -> io::Result<()> {
     let at = finding::field_at(image, place);
     let FieldName::Record { kind, index, field } = at else {
-        return;
+        return Ok(());
     };
     if index < RECORD_LIMIT {
         if field < FIELD_LIMIT {
-            explain_record(image, code, kind, index, field);
+            explain_record(rt, image, code, kind, index, field)?;
         }
     }
+    Ok(())
 }
 
-fn explain(image: &[u32], code: u32, place: usize) {
+fn explain(rt: &impl Print, image: &[u32], code: u32, place: usize) -> io::Result<()> {
     match code {
         refusals::TOO_SHORT => say::form(
+            rt,
             b"the image has % word+; a header has 12\n",
             image.len(),
             0,
             0,
             0,
         ),
-        refusals::OVER_LIMIT => words::explain_header(place, word(image, place)),
-        refusals::WRONG_LENGTH => explain_length(image.len(), place),
-        refusals::TOO_MANY_RUNS => explain_runs(image),
-        _ => explain_place(image, code, place),
+        refusals::OVER_LIMIT => words::explain_header(rt, place, word(image, place)),
+        refusals::WRONG_LENGTH => explain_length(rt, image.len(), place),
+        refusals::TOO_MANY_RUNS => explain_runs(rt, image),
+        _ => explain_place(rt, image, code, place),
     }
 }
 
-fn report(image: &[u32]) {
+fn report(rt: &impl Print, image: &[u32]) -> io::Result<()> {
     let answer = refusals::check(image);
     if answer.code == 0 {
         say::form(
+            rt,
             b"accepted width % height % runs %\n",
             ground::number(word(image, HEADER_WIDTH)),
             ground::number(word(image, HEADER_HEIGHT)),
             answer.runs,
             0,
-        );
+        )
     } else {
         say::form(
+            rt,
             b"refused % %\n",
             ground::number(answer.code),
             answer.place,
             0,
             0,
-        );
-        explain(image, answer.code, answer.place);
+        )?;
+        explain(rt, image, answer.code, answer.place)
     }
 }
 
-fn unreadable() {
-    say::text(b"unread\nthe input cannot be read; standard input may be closed, or a folder\n");
-}
-
-fn too_long() {
+fn unreadable(rt: &impl Print) -> io::Result<()> {
     say::text(
-        b"unread\nthe input has over 327728 bytes; an image has at most 81932 words, of four bytes each\n",
-    );
+        rt,
+        b"unread\nthe input cannot be read; standard input may be closed, or a folder\n",
+    )
 }
 
-fn broken_word(got: usize) {
+fn too_long(rt: &impl Print) -> io::Result<()> {
+    say::text(
+        rt,
+        b"unread\nthe input has over 327728 bytes; an image has at most 81932 words, of four bytes each\n",
+    )
+}
+
+fn broken_word(rt: &impl Print, got: usize) -> io::Result<()> {
     say::form(
+        rt,
         b"unread\nthe input has % byte+, no whole number of words; a word has four bytes\n",
         got,
         0,
         0,
         0,
-    );
+    )
 }
 
 // Reads an image and reports on it.
-fn report_input(bytes: &mut [u8], words: &mut [u32]) {
-    let came = image_input::read_image(bytes, words);
+fn report_input<R: io::Read>(
+    rt: &impl Print,
+    from: &mut R,
+    bytes: &mut [u8],
+    words: &mut [u32],
+) -> io::Result<()> {
+    let came = image_input::read_image(from, bytes, words);
     match came {
-        Image::Words(count) => report(&words[..count]),
-        Image::Failed => unreadable(),
-        Image::TooLong => too_long(),
-        Image::Broken(got) => broken_word(got),
+        Image::Words(count) => report(rt, &words[..count]),
+        Image::Failed => unreadable(rt),
+        Image::TooLong => too_long(rt),
+        Image::Broken(got) => broken_word(rt, got),
     }
 }
 
-fn main() {
+fn main(rt: HostRuntime) -> io::Result<()> {
     let mut bytes = [0u8; 4 * MOST_WORDS + 1];
     let mut words = [0u32; MOST_WORDS];
-    report_input(&mut bytes, &mut words);
+    report_input(&rt, &mut rt.stdin(), &mut bytes, &mut words)
 }

@@ -1,10 +1,10 @@
 // Words and numbers on standard output.
 ghost use Rattle.std.specs.Prelude.{◌≤◌, length};
 
-use libc::STDOUT_FILENO;
+use std::io;
 
-pub fn text(words: &[u8]) {
-    io::write_all(STDOUT_FILENO, words);
+pub fn text(rt: &impl Print, words: &[u8]) -> io::Result<()> {
+    rt.write_all(words)
 }
 
 // Where the part that begins at `from` ends: at a bar, or with the last part.
@@ -39,8 +39,8 @@ pub fn part(parts: &[u8], bar: u8, number: usize) -> &[u8] {
 }
 
 // The same, written.
-pub fn nth(parts: &[u8], number: usize) {
-    text(part(parts, b'|', number));
+pub fn nth(rt: &impl Print, parts: &[u8], number: usize) -> io::Result<()> {
+    text(rt, part(parts, b'|', number))
 }
 
 // How many of a word's eight hexadecimal digits a character leaves out: it has at least four, and more where it needs them.
@@ -61,46 +61,47 @@ fn spared(value: u32) -> usize
 }
 
 // A word's hexadecimal digits but for the first few.
-fn digits(value: u32, skipped: usize)
+fn digits(rt: &impl Print, value: u32, skipped: usize) -> io::Result<()>
     requires { skipped ≤ 4 }
 {
     let words = [value];
     let mut spelled = [0u8; hexrow::WORD_BYTES];
     hexrow::spell(&words, &mut spelled);
     let end: usize = 8;
-    text(&spelled[skipped..end]);
+    text(rt, &spelled[skipped..end])
 }
 
-fn hexadecimal(n: usize, character: bool) {
+fn hexadecimal(rt: &impl Print, n: usize, character: bool) -> io::Result<()> {
     if n < 0x1_0000_0000 {
         let value = n as u32;
         if character {
-            digits(value, spared(value));
+            digits(rt, value, spared(value))?;
         } else {
-            digits(value, 0);
+            digits(rt, value, 0)?;
         }
     }
+    Ok(())
 }
 
-fn plural(n: usize) {
+fn plural(rt: &impl Print, n: usize) -> io::Result<()> {
     if n != 1 {
-        text(b"s");
+        text(rt, b"s")?;
     }
+    Ok(())
 }
 
 // A number as its mark has it: `#` flags, `@` a character, `~` the name of a kind of record, `+` an s unless it is 1, else in decimal.
-fn marked(mark: u8, n: usize) {
+fn marked(rt: &impl Print, mark: u8, n: usize) -> io::Result<()> {
     match mark {
-        b'#' => hexadecimal(n, false),
-        b'@' => hexadecimal(n, true),
+        b'#' => hexadecimal(rt, n, false),
+        b'@' => hexadecimal(rt, n, true),
         b'~' => nth(
+            rt,
             b"node|edge|subgraph|placed label|element|point|glyph|width range",
             n,
         ),
-        b'+' => plural(n),
-        _ => {
-            io::print_decimal(STDOUT_FILENO, n as u64);
-        }
+        b'+' => plural(rt, n),
+        _ => rt.print(n),
     }
 }
 
@@ -144,18 +145,26 @@ fn mark_at(words: &[u8], from: usize) -> usize
 }
 
 // Words with numbers in them: each mark stands for the next of the four.
-pub fn form(words: &[u8], a: usize, b: usize, c: usize, d: usize) {
+pub fn form(
+    rt: &impl Print,
+    words: &[u8],
+    a: usize,
+    b: usize,
+    c: usize,
+    d: usize,
+) -> io::Result<()> {
     let mut from: usize = 0;
     let mut k: usize = 0;
     while from < words.len() {
         let at = mark_at(words, from);
-        text(&words[from..at]);
+        text(rt, &words[from..at])?;
         if at == words.len() {
-            return;
+            return Ok(());
         }
         let which = meant(words[at], k);
-        marked(words[at], chosen(which, a, b, c, d));
+        marked(rt, words[at], chosen(which, a, b, c, d))?;
         k = which + 1;
         from = at + 1;
     }
+    Ok(())
 }

@@ -5,11 +5,11 @@
 
 use input::Input;
 use layout::word;
-use libc::STDOUT_FILENO;
 use sheetdraft::MOST_WORDS;
 use sheetlines::Outcome;
 use sheettext::part;
 use sheetvalues::fields::{DRAFT_WORDS, FILL_ELEMENTS, FILL_RUNS};
+use std::io;
 
 mod say;
 
@@ -39,30 +39,36 @@ fn finish(draft: &mut [u32], image: &mut [u32]) -> usize {
 }
 
 // Writes the words of an image.
-fn write_words(words: &[u32], bytes: &mut [u8]) {
+fn write_words(
+    out: &impl Print,
+    err: &impl Print,
+    words: &[u32],
+    bytes: &mut [u8],
+) -> io::Result<()> {
     let count = wordfile::store(words, bytes);
-    if !io::write_all(STDOUT_FILENO, part(bytes, 0, count)) {
-        say::not_written();
+    match out.write_all(part(bytes, 0, count)) {
+        Ok(()) => Ok(()),
+        Err(_) => say::not_written(err),
     }
 }
 
 // Makes the image of a text, or says why there is none.
-fn make(text: &[u8], bytes: &mut [u8]) {
+fn make(out: &impl Print, err: &impl Print, text: &[u8], bytes: &mut [u8]) -> io::Result<()> {
     let mut draft = [0u32; DRAFT_WORDS];
     let mut image = [0u32; MOST_WORDS];
     let outcome = sheetlines::read_text(text, &mut draft);
     match outcome {
         Outcome::Read => {
             let count = finish(&mut draft, &mut image);
-            write_words(sheetdraft::first_words(&image, count), bytes);
+            write_words(out, err, sheetdraft::first_words(&image, count), bytes)
         }
         Outcome::Unread {
             line,
             start,
             end,
             fault,
-        } => say::fault(part(text, start, end), line, fault),
-        Outcome::NoSheet(line) => say::no_sheet(line),
+        } => say::fault(err, part(text, start, end), line, fault),
+        Outcome::NoSheet(line) => say::no_sheet(err, line),
     }
 }
 
@@ -80,22 +86,38 @@ fn lines_in(bytes: &[u8]) -> usize {
 }
 
 // The lent bytes have room for one more than the longest text has: where they are filled the input is longer, and is never taken for a whole one.
-fn make_input(text: &mut [u8], bytes: &mut [u8]) {
-    let read = input::read_all(text);
+fn make_input<R: io::Read>(
+    from: &mut R,
+    out: &impl Print,
+    err: &impl Print,
+    text: &mut [u8],
+    bytes: &mut [u8],
+) -> io::Result<()> {
+    let read = input::read_all(from, text);
     match read {
         Input::Bytes(got) => {
             if MOST_BYTES < got {
-                say::too_long(std::num::wrapping_add_usize(lines_in(text), 1), MOST_BYTES);
+                say::too_long(
+                    err,
+                    std::num::wrapping_add_usize(lines_in(text), 1),
+                    MOST_BYTES,
+                )
             } else {
-                make(part(text, 0, got), bytes);
+                make(out, err, part(text, 0, got), bytes)
             }
         }
-        Input::Failed => say::not_read(),
+        Input::Failed => say::not_read(err),
     }
 }
 
-fn main() {
+fn main(rt: HostRuntime) -> io::Result<()> {
     let mut text = [0u8; MOST_BYTES + 1];
     let mut bytes = [0u8; 4 * MOST_WORDS];
-    make_input(&mut text, &mut bytes);
+    make_input(
+        &mut rt.stdin(),
+        &rt.stdout(),
+        &rt.stderr(),
+        &mut text,
+        &mut bytes,
+    )
 }

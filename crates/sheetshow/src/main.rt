@@ -11,9 +11,10 @@ ghost use Rattle.sheetshow.specs.Room.{band_rows, band_cells, band_bytes, Planes
 
 use image_input::{Image, MOST_WORDS};
 use layout::{HEADER_HEIGHT, HEADER_WIDTH, MAX_ELEMENTS, MAX_RUNS, MAX_WIDTH, word};
-use libc::STDOUT_FILENO;
 use paint::Outcome;
 use sheettext::part;
+use std::env::{Env, FillError};
+use std::io;
 
 mod say;
 
@@ -44,28 +45,39 @@ enum Form {
     Unknown,
 }
 
-// `os::arg` answers no byte of an argument that is longer than its room.
-fn form_asked() -> Form {
-    let count = os::arg_count();
-    if count < 2 {
-        return Form::Plain;
+// Whether there is no second argument. How long one is does not matter: it is not read.
+fn is_only_one(rt: &impl Env) -> bool {
+    match rt.arg(2, &mut [0u8; 1]) {
+        Err(FillError::NotPresent) => true,
+        _ => false,
     }
+}
+
+// `arg` answers no byte of an argument that is longer than its room.
+fn form_asked(rt: &impl Env) -> Form {
     let mut argument = [0u8; 8];
-    let size = os::arg(1, &mut argument);
-    if count == 2 && check::same(&argument[..size], b"--colour") {
-        Form::Coloured
-    } else {
-        Form::Unknown
+    match rt.arg(1, &mut argument) {
+        Ok(size) => {
+            if argument[..size] == b"--colour"[..] && is_only_one(rt) {
+                Form::Coloured
+            } else {
+                Form::Unknown
+            }
+        }
+        Err(FillError::NotPresent) => Form::Plain,
+        Err(FillError::TooLong) => Form::Unknown,
     }
 }
 
 // Writes a text to standard output; and whether that took it.
-fn put_out(text: &[u8]) -> bool {
-    let taken = io::write_all(STDOUT_FILENO, text);
-    if !taken {
-        say::not_written();
+fn put_out(rt: &(impl Print + Eprint), text: &[u8]) -> bool {
+    match rt.write_all(text) {
+        Ok(()) => true,
+        Err(_) => {
+            say::not_written(rt);
+            false
+        }
     }
-    taken
 }
 
 // The colours that the form shows. Without any, the text is the plain one.
@@ -74,15 +86,23 @@ fn shown_colours(colours: &[u32], coloured: bool) -> &[u32] {
 }
 
 // Shows so many painted rows, which the cells begin with; and whether the output took them.
-fn show_rows(cells: &[u32], colours: &[u32], width: usize, rows: usize, out: &mut [u8]) -> bool
+fn show_rows(
+    rt: &(impl Print + Eprint),
+    cells: &[u32],
+    colours: &[u32],
+    width: usize,
+    rows: usize,
+    out: &mut [u8],
+) -> bool
     requires { (width * rows ≤ length cells.now) × (width ≤ max_width) × (rows ≤ band_rows) × (length out.old ≡ band_bytes) }
 {
     let bytes = rowtext::write_band(cells, colours, width, rows, out);
-    put_out(part(out, 0, bytes))
+    put_out(rt, part(out, 0, bytes))
 }
 
 // Shows so many rows of a sheet that is painted whole, from a first one on; and whether the output took them.
 fn show_part(
+    rt: &(impl Print + Eprint),
     cells: &[u32],
     colours: &[u32],
     width: usize,
@@ -94,17 +114,24 @@ fn show_part(
 {
     let start = width * first;
     let from = ground::min(start, colours.len());
-    show_rows(&cells[start..], &colours[from..], width, rows, out)
+    show_rows(rt, &cells[start..], &colours[from..], width, rows, out)
 }
 
 // All rows of a sheet that is painted whole, a part after the other. Where the output takes no more, the rest is left.
-fn show_parts(cells: &[u32], colours: &[u32], width: usize, height: usize, out: &mut [u8])
+fn show_parts(
+    rt: &(impl Print + Eprint),
+    cells: &[u32],
+    colours: &[u32],
+    width: usize,
+    height: usize,
+    out: &mut [u8],
+)
     requires { (width * height ≤ length cells.now) × (width ≤ max_width) × (length out.old ≡ band_bytes) }
 {
     let mut first: usize = 0;
     while first < height {
         let rows = ground::min(BAND_ROWS, height - first);
-        if !show_part(cells, colours, width, first, rows, out) {
+        if !show_part(rt, cells, colours, width, first, rows, out) {
             return;
         }
         first += rows;
@@ -112,12 +139,26 @@ fn show_parts(cells: &[u32], colours: &[u32], width: usize, height: usize, out: 
 }
 
 // Shows a sheet that is painted whole.
-fn show_whole(image: &[u32], coloured: bool, cells: &[u32], colours: &[u32], out: &mut [u8])
+fn show_whole(
+    rt: &(impl Print + Eprint),
+    image: &[u32],
+    coloured: bool,
+    cells: &[u32],
+    colours: &[u32],
+    out: &mut [u8],
+)
     requires { (picture.width image.now ≤ max_width) × (picture.width image.now * picture.height image.now ≤ length cells.now) × (length out.old ≡ band_bytes) }
 {
     let width = ground::number(word(image, HEADER_WIDTH));
     let height = ground::number(word(image, HEADER_HEIGHT));
-    show_parts(cells, shown_colours(colours, coloured), width, height, out);
+    show_parts(
+        rt,
+        cells,
+        shown_colours(colours, coloured),
+        width,
+        height,
+        out,
+    );
 }
 
 // Paints so many rows of an accepted image from a first one on, in the planes that the form shows. They have room for the widest band: nothing is refused.
@@ -142,6 +183,7 @@ fn paint_rows(
 
 // Shows so many rows of a band that was painted; and whether the output took them.
 fn show_painted(
+    rt: &(impl Print + Eprint),
     image: &[u32],
     rows: usize,
     coloured: bool,
@@ -152,11 +194,19 @@ fn show_painted(
     requires { Keeps image.now × (rows ≤ band_rows) × (length cells.now ≡ band_cells) × (length out.old ≡ band_bytes) }
 {
     let width = ground::number(word(image, HEADER_WIDTH));
-    show_rows(cells, shown_colours(colours, coloured), width, rows, out)
+    show_rows(
+        rt,
+        cells,
+        shown_colours(colours, coloured),
+        width,
+        rows,
+        out,
+    )
 }
 
 // Paints so many rows of an accepted image from a first one on, and shows them; and whether the output took them.
 fn show_band(
+    rt: &(impl Print + Eprint),
     image: &[u32],
     first: usize,
     rows: usize,
@@ -172,11 +222,12 @@ fn show_band(
     paint_rows(
         image, first, rows, coloured, cells, colours, stamps, scratch,
     );
-    show_painted(image, rows, coloured, cells, colours, out)
+    show_painted(rt, image, rows, coloured, cells, colours, out)
 }
 
 // Shows an accepted image, band after band. Where the output takes no more, the rest is left.
 fn show_bands(
+    rt: &(impl Print + Eprint),
     image: &[u32],
     coloured: bool,
     cells: &mut [u32],
@@ -192,7 +243,7 @@ fn show_bands(
     while first < height {
         let rows = ground::min(BAND_ROWS, height - first);
         if !show_band(
-            image, first, rows, coloured, cells, colours, stamps, scratch, out,
+            rt, image, first, rows, coloured, cells, colours, stamps, scratch, out,
         ) {
             return;
         }
@@ -220,6 +271,7 @@ fn paint_whole(
 
 // Shows an image, or says that it is refused. What is refused for lack of room is accepted, and bands have room.
 fn show_image(
+    rt: &(impl Print + Eprint),
     image: &[u32],
     coloured: bool,
     cells: &mut [u32],
@@ -227,20 +279,24 @@ fn show_image(
     stamps: &mut [u32],
     scratch: &mut [u32],
     out: &mut [u8],
-)
+) -> io::Result<()>
     requires { Planes cells.old colours.old stamps.old scratch.old × (length out.old ≡ band_bytes) }
 {
     let painted = paint_whole(image, coloured, cells, colours, stamps, scratch);
     if painted.code == 0 {
-        show_whole(image, coloured, cells, colours, out);
+        show_whole(rt, image, coloured, cells, colours, out);
+        Ok(())
     } else if painted.code == lending::TOO_LITTLE_ROOM {
-        show_bands(image, coloured, cells, colours, stamps, scratch, out);
+        show_bands(rt, image, coloured, cells, colours, stamps, scratch, out);
+        Ok(())
     } else {
-        say::refused(painted.code, painted.place);
+        say::refused(rt, painted.code, painted.place)
     }
 }
 
-fn show_input(
+fn show_input<R: io::Read>(
+    rt: &(impl Print + Eprint),
+    from: &mut R,
     coloured: bool,
     bytes: &mut [u8],
     words: &mut [u32],
@@ -249,15 +305,15 @@ fn show_input(
     stamps: &mut [u32],
     scratch: &mut [u32],
     out: &mut [u8],
-)
+) -> io::Result<()>
     requires { Planes cells.old colours.old stamps.old scratch.old × (length out.old ≡ band_bytes) }
 {
-    let came = image_input::read_image(bytes, words);
+    let came = image_input::read_image(from, bytes, words);
     let Image::Words(count) = came else {
-        say::unread();
-        return;
+        return say::unread(rt);
     };
     show_image(
+        rt,
         &words[..count],
         coloured,
         cells,
@@ -265,11 +321,13 @@ fn show_input(
         stamps,
         scratch,
         out,
-    );
+    )
 }
 
 // The buffers as slices. An array is handed on whole and becomes a slice here, where its length is known from its type: the prover would count a local array's elements.
-fn lend_all(
+fn lend_all<R: io::Read>(
+    rt: &(impl Print + Eprint),
+    from: &mut R,
     coloured: bool,
     bytes: &mut [u8; 4 * MOST_WORDS + 1],
     words: &mut [u32; MOST_WORDS],
@@ -278,11 +336,13 @@ fn lend_all(
     stamps: &mut [u32; BAND_CELLS],
     scratch: &mut [u32; SCRATCH_WORDS],
     out: &mut [u8; BAND_BYTES],
-) {
-    show_input(coloured, bytes, words, cells, colours, stamps, scratch, out);
+) -> io::Result<()> {
+    show_input(
+        rt, from, coloured, bytes, words, cells, colours, stamps, scratch, out,
+    )
 }
 
-fn show(coloured: bool) {
+fn show<R: io::Read>(rt: &(impl Print + Eprint), from: &mut R, coloured: bool) -> io::Result<()> {
     let mut bytes = [0u8; 4 * MOST_WORDS + 1];
     let mut words = [0u32; MOST_WORDS];
     let mut cells = [0u32; BAND_CELLS];
@@ -291,6 +351,8 @@ fn show(coloured: bool) {
     let mut scratch = [0u32; SCRATCH_WORDS];
     let mut out = [0u8; BAND_BYTES];
     lend_all(
+        rt,
+        from,
         coloured,
         &mut bytes,
         &mut words,
@@ -299,14 +361,14 @@ fn show(coloured: bool) {
         &mut stamps,
         &mut scratch,
         &mut out,
-    );
+    )
 }
 
-fn main() {
-    let form = form_asked();
+fn main(rt: HostRuntime) -> io::Result<()> {
+    let form = form_asked(&rt);
     match form {
-        Form::Plain => show(false),
-        Form::Coloured => show(true),
-        Form::Unknown => say::usage(),
+        Form::Plain => show(&rt, &mut rt.stdin(), false),
+        Form::Coloured => show(&rt, &mut rt.stdin(), true),
+        Form::Unknown => say::usage(&rt),
     }
 }

@@ -1,31 +1,24 @@
 // Lines on standard output that are no drawing.
-use libc::{STDERR_FILENO, STDOUT_FILENO};
+use std::io;
 
-fn text(bytes: &[u8]) {
-    io::write_all(STDOUT_FILENO, bytes);
+fn text(rt: &impl Print, bytes: &[u8]) -> io::Result<()> {
+    rt.write_all(bytes)
 }
 
-pub fn unread() {
-    text(b"unread\n");
+pub fn unread(rt: &impl Print) -> io::Result<()> {
+    text(rt, b"unread\n")
 }
 
-pub fn refused(code: u32, place: usize) {
-    text(b"refused ");
-    io::print_decimal(STDOUT_FILENO, code as u64);
-    text(b" ");
-    io::print_decimal(STDOUT_FILENO, place as u64);
-    text(b"\n");
+pub fn refused(rt: &impl Print, code: u32, place: usize) -> io::Result<()> {
+    println!(rt; "refused {code} {place}")
 }
 
 // How to call the program.
-pub fn usage() {
-    text(b"usage: sheetshow [--colour] < IMAGE\n");
+pub fn usage(rt: &impl Print) -> io::Result<()> {
+    text(rt, b"usage: sheetshow [--colour] < IMAGE\n")
 }
 
-// On standard error: the drawing before it is not whole.
-pub fn not_written() {
-    io::write_all(
-        STDERR_FILENO,
-        b"sheetshow: the drawing cannot be written to its end\n",
-    );
+// On standard error: the drawing before it is not whole. Where standard error takes nothing either, nobody can be told.
+pub fn not_written(rt: &impl Eprint) {
+    let _ = rt.eprintln("sheetshow: the drawing cannot be written to its end");
 }

@@ -1,5 +1,5 @@
 -- "numbers decimal or 0x hex": what a word is as a number of 32 bits.
-use Rattle.std.specs.Prelude.{ℕ, ◌+◌, ◌*◌, ◌-◌, Bool, cond, ◌&&◌, List, [], ◌∷◌, eqb, leb, ltb, length, get_or}
+use Rattle.std.specs.Prelude.{ℕ, ◌+◌, ◌*◌, ◌-◌, Bool, cond, ◌&&◌, List, ◌∷◌, eqb, leb, ltb, length, get_or}
 use Rattle.sheettext.specs.Parts.{part}
 use Rattle.sheettext.specs.declared.Reading.{Reading}
 use Rattle.sheettext.specs.declared.Reading.TheVariants as reading

@@ -1,5 +1,5 @@
 -- Parts of a text, a list of bytes.
-use Rattle.std.specs.Prelude.{ℕ, suc, ◌-◌, min, cond, List, [], ◌∷◌, eqb, length, take, drop}
+use Rattle.std.specs.Prelude.{ℕ, suc, ◌-◌, min, cond, List, ◌∷◌, eqb, length, take, drop}
 
 -- the bytes from one place to another, as many of them as there are
 abbrev pub part : List ℕ → ℕ → ℕ → List ℕ

@@ -1,5 +1,5 @@
 -- For the proofs alone: what the sweep carries from band to band. "the active elements, the cursor and the next row stand in a sweep record".
-use Rattle.std.specs.Prelude.{ℕ, ◌+◌, ◌-◌, ◌≤◌, ◌<◌, cond, List, [], ◌∷◌, ◌++◌, ◌≡◌, leb, length, take, drop, set}
+use Rattle.std.specs.Prelude.{ℕ, ◌+◌, ◌-◌, ◌≤◌, ◌<◌, cond, List, ◌∷◌, ◌++◌, ◌≡◌, leb, length, take, drop, set}
 use Rattle.ground.specs.Each.{numbers}
 use Rattle.layout.specs.declared.Tables.{Tables}
 use Rattle.elements.specs.Elements.{first_row, last_row}

@@ -1,5 +1,5 @@
 -- For the proofs alone: glyphs in one row, as the code goes over them.
-use Rattle.std.specs.Prelude.{ℕ, ◌+◌, ◌≤◌, cond, List, [], ◌∷◌, leb, length}
+use Rattle.std.specs.Prelude.{ℕ, ◌+◌, ◌≤◌, cond, List, ◌∷◌, leb, length}
 use Rattle.glyph.specs.Width.{width_of}
 use Rattle.canvas.specs.Row.{text_row}
 

@@ -3,7 +3,7 @@
 use native.Mathlib.Omega.{arith}
 use Prim.Native.Nat.{ℕ, ◌+◌, ◌<◌}
 use mathlib.Core.Path.{◌≡◌, sym, ap, ◌∙◌}
-use mathlib.Core.List.{List, [], ◌++◌, map, map-map}
+use mathlib.Core.List.{List, ◌++◌, map, map-map}
 use lib.ListN.{take}
 use Rattle.ground.specs.Each.{numbers}
 use Rattle.ground.proofs.Each.{each_numbers}

@@ -1,5 +1,5 @@
 -- Request #112, of the text: "the columns of #101's text sum to the sheet's width in every row, what #101 writes for a stroke or marker cell counted as 1".
-use Rattle.std.specs.Prelude.{ℕ, ◌+◌, List, [], ◌∷◌, length, get_or, take, drop}
+use Rattle.std.specs.Prelude.{ℕ, ◌+◌, List, ◌∷◌, length, get_or, take, drop}
 use Rattle.ground.specs.Each.{each}
 use Rattle.cell.specs.declared.Parts.{Parts}
 use Rattle.cell.specs.declared.Parts.TheVariants.{Empty, Text, Continuation, Stroke, Marker}

@@ -1,6 +1,6 @@
 -- "Reading the plain text back, columns counted, gives the same characters per column under the same widths, where no range covers a character that is
 -- written for a stroke or marker."
-use Rattle.std.specs.Prelude.{ℕ, zero, suc, ◌+◌, ◌≤◌, ◌<◌, cond, List, [], ◌∷◌, map, eqb, length, drop}
+use Rattle.std.specs.Prelude.{ℕ, zero, suc, ◌+◌, ◌≤◌, ◌<◌, cond, List, ◌∷◌, map, eqb, length, drop}
 use Rattle.ground.specs.Each.{numbers, each}
 use Rattle.cell.specs.declared.Parts.{Parts}
 use Rattle.cell.specs.declared.Parts.TheVariants.{Empty, Text, Continuation, Stroke, Marker}

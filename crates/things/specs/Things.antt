@@ -1,5 +1,5 @@
 -- What each thing of an image touches of the sheet, and the run count.
-use Rattle.std.specs.Prelude.{ℕ, ◌+◌, Bool, List, [], ◌∷◌}
+use Rattle.std.specs.Prelude.{ℕ, ◌+◌, Bool, List, ◌∷◌}
 use Rattle.ground.specs.Each.{numbers}
 use Rattle.layout.specs.declared.Tables.{Tables}
 use Rattle.layout.specs.Layout.{header_width, header_height}

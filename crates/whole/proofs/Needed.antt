@@ -1,7 +1,7 @@
 -- Why wholeness asks for a space of width 1 and for code points: rows of four cells that ink breaks where one of the two is missing.
 use native.Mathlib.Omega.{arith}
 use Prim.Native.Nat.{ℕ}
-use mathlib.Core.List.{List, [], ◌∷◌}
+use mathlib.Core.List.{List, ◌∷◌}
 use mathlib.Core.Path.{◌≡◌, refl}
 use Rattle.cell.specs.declared.Parts.TheVariants.{Text, Continuation}
 use Rattle.cell.specs.OneCell.{pack, read_text, read, painted_text}

@@ -1,7 +1,7 @@
 -- Rows one after the other, as the code goes down a column: a turn of its loop, and rows above and below the window left out.
 use native.Mathlib.Omega.{arith}
 use Prim.Native.Nat.{ℕ, ◌+◌, ◌-◌, ◌*◌, ◌≤◌, ◌<◌, min, max}
-use mathlib.Core.List.{List, []}
+use mathlib.Core.List.{List}
 use mathlib.Core.Path.{◌≡◌, refl, sym, ◌∙◌}
 use Rattle.ground.proofs.Turns.{turns_again, turns_rest, turns_start}
 use Rattle.rows.specs.declared.Window.{Window}

@@ -1,7 +1,7 @@
 -- Writes that all fall on one row: what they leave is that row changed by one after the other.
 use Prim.Native.Nat.{ℕ}
 use mathlib.Core.Bool.{Bool, true, false, cond}
-use mathlib.Core.List.{List, [], ◌∷◌}
+use mathlib.Core.List.{List, ◌∷◌}
 use mathlib.Core.Path.{◌≡◌, refl, ap, ◌∙◌}
 use Rattle.rows.specs.declared.Window.{Window}
 use Rattle.rows.specs.Window.{in_window}

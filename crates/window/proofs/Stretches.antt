@@ -1,7 +1,7 @@
 -- Spots painted with one tint: one stretch after the other, and spots under a test.
 use Prim.Native.Nat.{ℕ}
 use mathlib.Core.Bool.{Bool, true, false, cond}
-use mathlib.Core.List.{List, [], ◌++◌, map-append}
+use mathlib.Core.List.{List, ◌++◌, map-append}
 use mathlib.Core.Path.{◌≡◌, sym, ap, ◌∙◌}
 use Rattle.rows.specs.declared.Window.{Window}
 use Rattle.rows.specs.Spots.{Spot}

@@ -1,6 +1,6 @@
 -- Writes into a window of rows, which lie one after the other in the lent planes. What they leave of one row is what `Writes` says of that row
 -- (`row-in-window` of the proofs).
-use Rattle.std.specs.Prelude.{ℕ, ◌+◌, ◌-◌, ◌*◌, ◌≤◌, cond, List, [], ◌∷◌, ◌++◌, length, take, drop}
+use Rattle.std.specs.Prelude.{ℕ, ◌+◌, ◌-◌, ◌*◌, ◌≤◌, cond, List, ◌∷◌, ◌++◌, length, take, drop}
 use Rattle.rows.specs.declared.Window.{Window}
 use Rattle.rows.specs.Window.{in_window}
 use Rattle.window.specs.declared.Lent.{Lent}

@@ -1,5 +1,5 @@
 -- A write: ink at a place of the sheet, with the colour and the stamp that go with it. What a list of writes leaves of one row of the sheet.
-use Rattle.std.specs.Prelude.{ℕ, zero, suc, cond, List, [], ◌∷◌, map, eqb, set, replicate}
+use Rattle.std.specs.Prelude.{ℕ, zero, suc, cond, List, ◌∷◌, map, eqb, set, replicate}
 use Rattle.glyph.specs.Width.{width_of}
 use Rattle.canvas.specs.Row.{stroke_row, marker_row, text_row}
 use Rattle.rows.specs.Spots.{Ink, stroke, marker, glyph, Spot}

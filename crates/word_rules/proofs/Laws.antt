@@ -1,7 +1,7 @@
 -- Laws over plain values, which the functions' proofs cite: an edge's field, and a field of a record of any kind.
 use Prim.Native.Nat.{ℕ}
 use mathlib.Core.List.{List}
-use mathlib.Core.Path.{◌≡◌, refl}
+use mathlib.Core.Path.{◌≡◌}
 use Rattle.layout.specs.declared.RecordKind.{RecordKind}
 use Rattle.layout.specs.declared.RecordKind.TheVariants as kind
 use Rattle.layout.specs.declared.Table.{Table}

@@ -1,7 +1,7 @@
 -- "X flow exchanges the axes, but crossings are immediate strokes; the corner arrow needs bend = from x + s exactly; SideChannel has a source trunk and
 -- start arrow, its bend being span start." Bends and spans are columns, the channel is a row, the offset counts columns. The pieces stand in the order of the
 -- text; a piece that is not there is `Nothing`.
-use Rattle.std.specs.Prelude.{ℕ, ◌+◌, Bool, true, false, not, cond, ◌&&◌, List, [], ◌∷◌, ltb, eqb}
+use Rattle.std.specs.Prelude.{ℕ, ◌+◌, Bool, false, not, cond, ◌&&◌, List, ◌∷◌, ltb, eqb}
 use Rattle.cell.specs.declared.Weight.{Weight}
 use Rattle.cell.specs.declared.Dir.{Dir}
 use Rattle.cell.specs.declared.Dir.TheVariants.{Left, Right}

@@ -1,5 +1,5 @@
 -- "Y flow": the pieces of an edge that flows down or up, in the order of the text; a piece that is not there is `Nothing`.
-use Rattle.std.specs.Prelude.{ℕ, ◌+◌, ◌-◌, min, max, Bool, true, false, not, cond, ◌&&◌, List, [], ◌∷◌, leb, ltb, eqb}
+use Rattle.std.specs.Prelude.{ℕ, ◌+◌, ◌-◌, min, max, Bool, false, not, cond, ◌&&◌, List, ◌∷◌, leb, ltb, eqb}
 use Rattle.cell.specs.declared.Weight.{Weight}
 use Rattle.cell.specs.declared.Dir.{Dir}
 use Rattle.cell.specs.declared.Dir.TheVariants.{Up, Down}

@@ -16,10 +16,10 @@ select-shown-requires c =
     )
 
 pub slice_bounds-paint_rows-end : goal.slice_bounds-paint_rows-end
-slice_bounds-paint_rows-end c = back_room _ _ _ _ _ _ _ _ _ _ c.requires c.tables_of-ts.ensures.value c.scratch_room-needed.ensures c.select-shown.new.1.1.1.1.0
+slice_bounds-paint_rows-end c = back_room _ _ _ _ _ _ _ _ _ _ c.requires c.tables_of-ts.ensures.value c.scratch_room-needed.ensures c.select-shown.new.list
 
 pub slice_bounds-paint_rows-end-2 : goal.slice_bounds-paint_rows-end-2
-slice_bounds-paint_rows-end-2 c = sym (back_cut _ _ _ _ _ _ _ _ _ _ c.requires c.tables_of-ts.ensures.value c.scratch_room-needed.ensures c.select-shown.new.1.1.1.1.0)
+slice_bounds-paint_rows-end-2 c = sym (back_cut _ _ _ _ _ _ _ _ _ _ c.requires c.tables_of-ts.ensures.value c.scratch_room-needed.ensures c.select-shown.new.list)
 
 pub paint_rows-requires-clause-keeps : goal.paint_rows-requires-clause-keeps
 paint_rows-requires-clause-keeps c =
@@ -32,19 +32,19 @@ paint_rows-requires-clause-keeps c =
     )
 
 pub paint_rows-requires-clause-cells_len : goal.paint_rows-requires-clause-cells_len
-paint_rows-requires-clause-cells_len c = (c.requires.lends.lent_cells, c.requires.lends.planes, back_front _ _ _ _ _ _ _ _ _ _ c.requires c.tables_of-ts.ensures.value c.scratch_room-needed.ensures c.select-shown.new.1.1.1.1.0)
+paint_rows-requires-clause-cells_len c = (c.requires.lends.lent_cells, c.requires.lends.planes, back_front _ _ _ _ _ _ _ _ _ _ c.requires c.tables_of-ts.ensures.value c.scratch_room-needed.ensures c.select-shown.new.list)
 
 pub pass-requires : goal.pass-requires
 pass-requires c =
     let inside = rows_inside c.args.image.now c.args.band c.args.sweep.next _ c.requires.inside c.rows_from-rows.ensures in (
       c.tables_of-ts.ensures.all_small,
       omega (arith, inside, c.select-shown.ensures.swept.1, c.requires.keeps.header.height),
-      room_again _ _ _ _ _ _ _ _ _ _ c.requires c.tables_of-ts.ensures.value c.scratch_room-needed.ensures c.select-shown.new.1.1.1.1.0 c.paint_rows.new.1.1.1.1.1.1.1.1.1.0 c.scratch-1.given.0 c.paint_rows.ensures.scratch_len_unchanged,
-      swept_again _ _ _ _ _ _ (list_again _ _ _ _ _ _ _ _ _ _ c.requires c.tables_of-ts.ensures.value c.scratch_room-needed.ensures c.select-shown.new.1.1.1.1.0 c.paint_rows.new.1.1.1.1.1.1.1.1.1.0 c.scratch-1.given.0 c.paint_rows.ensures.scratch_len_unchanged) c.select-shown.ensures.swept.0,
+      room_again _ _ _ _ _ _ _ _ _ _ c.requires c.tables_of-ts.ensures.value c.scratch_room-needed.ensures c.select-shown.new.list c.paint_rows.new.scratch c.scratch-1.given.0 c.paint_rows.ensures.scratch_len_unchanged,
+      swept_again _ _ _ _ _ _ (list_again _ _ _ _ _ _ _ _ _ _ c.requires c.tables_of-ts.ensures.value c.scratch_room-needed.ensures c.select-shown.new.list c.paint_rows.new.scratch c.scratch-1.given.0 c.paint_rows.ensures.scratch_len_unchanged) c.select-shown.ensures.swept.0,
     )
 
 pub returns : goal.returns
 returns c =
-    stepped _ _ _ _ _ _ _ _ _ _ c.requires c.tables_of-ts.ensures.value c.scratch_room-needed.ensures c.select-shown.new.1.1.1.1.0 c.paint_rows.new.1.1.1.1.1.1.1.1.1.0 c.scratch-1.given.0 c.paint_rows.ensures.scratch_len_unchanged
-    c.args.band _ c.rows_from-rows.ensures c.select-shown.result c.pass.result c.paint_rows.new.1.1.1.1.1.1.0 c.paint_rows.new.1.1.1.1.1.1.1.0 c.paint_rows.new.1.1.1.1.1.1.1.1.0
-    c.pass.new.1.1.1.1.0 _ _ c.select-shown.ensures.swept.1 c.select-shown.ensures.marks_after_2 c.paint_rows.ensures.with_band c.scratch-3-1.given.0 c.pass.ensures.swept c.pass.ensures.marks_after
+    stepped _ _ _ _ _ _ _ _ _ _ c.requires c.tables_of-ts.ensures.value c.scratch_room-needed.ensures c.select-shown.new.list c.paint_rows.new.scratch c.scratch-1.given.0 c.paint_rows.ensures.scratch_len_unchanged
+    c.args.band _ c.rows_from-rows.ensures c.select-shown.result c.pass.result c.paint_rows.new.cells c.paint_rows.new.colours c.paint_rows.new.stamps
+    c.pass.new.list _ _ c.select-shown.ensures.swept.1 c.select-shown.ensures.marks_after_2 c.paint_rows.ensures.with_band c.scratch-3-1.given.0 c.pass.ensures.swept c.pass.ensures.marks_after

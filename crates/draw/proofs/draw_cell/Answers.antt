@@ -10,4 +10,4 @@ pub returns-in-Mark : goal.returns-in-Mark
 returns-in-Mark c = search (inked_mark, rules)
 
 pub returns-in_default : goal.returns-in_default
-returns-in_default c = search (no_cell, rules)
+returns-in_default c = no_cell _ _ _ _ c.in_default.not-Stroke c.in_default.not-Mark c.requires.0

@@ -10,4 +10,4 @@ pub returns-in-Horizontal : goal.returns-in-Horizontal
 returns-in-Horizontal c = search (inked_horizontal, rules)
 
 pub returns-in_default : goal.returns-in_default
-returns-in_default c = search (no_line, rules)
+returns-in_default c = no_line _ _ _ _ c.in_default.not-Vertical c.in_default.not-Horizontal c.requires.0

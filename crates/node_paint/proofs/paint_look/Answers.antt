@@ -14,11 +14,11 @@ paint_loop-requires-in-Simple c = ready_after _ _ _ _ _ _ _ _ _ _ c.paint_simple
 
 pub returns-in-Hidden : goal.returns-in-Hidden
 unfolding look_spots
-returns-in-Hidden c = look_inked _ _ _ _ _ _ _ _ _ c.in-Hidden.is (sym (ink_none _ _ _))
+returns-in-Hidden c = look_inked _ _ _ c.args.n c.args.label.now _ _ _ _ c.in-Hidden.is (sym (ink_none _ _ _))
 
 pub returns-in-Dummy : goal.returns-in-Dummy
 unfolding look_spots
-returns-in-Dummy c = look_inked _ _ _ _ _ _ _ _ _ c.in-Dummy.is c.paint_dummy.ensures
+returns-in-Dummy c = look_inked _ _ _ c.args.n c.args.label.now _ _ _ _ c.in-Dummy.is c.paint_dummy.ensures
 
 pub returns-in-Box : goal.returns-in-Box
 returns-in-Box c = search (look_boxed, rules)
@@ -28,4 +28,4 @@ returns-in-Simple c = search (look_simple, rules)
 
 pub returns-in-Blank : goal.returns-in-Blank
 unfolding look_spots
-returns-in-Blank c = look_inked _ _ _ _ _ _ _ _ _ c.in-Blank.is c.paint_loop-in-Blank.ensures
+returns-in-Blank c = look_inked _ _ _ c.args.n c.args.label.now _ _ _ _ c.in-Blank.is c.paint_loop-in-Blank.ensures

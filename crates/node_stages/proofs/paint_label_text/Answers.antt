@@ -12,9 +12,7 @@ span_words-glyphs-requires c = c.requires.0.small.glyphs
 
 pub paint_quoted-requires : goal.paint_quoted-requires
 paint_quoted-requires c =
-    -- the span's count is a word
-    let few = c.known_told-1.given.0.1.1.1.0.1 in
-    (c.requires.1, label_short _ _ _ _ _ _ _ c.requires.0 c.span_words-glyphs.ensures few, c.number-x.ensures.1)
+    (c.requires.1, label_short _ _ _ _ _ _ _ c.requires.0 c.span_words-glyphs.ensures (search rules), c.number-x.ensures.1)
 
 pub returns-then-paints_under : goal.returns-then-paints_under
 returns-then-paints_under c =

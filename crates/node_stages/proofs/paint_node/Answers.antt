@@ -6,9 +6,7 @@ use Rattle.node_stages.proofs.paint_node.Goals as goal
 
 pub paint_node-requires : goal.paint_node-requires
 paint_node-requires c =
-    -- the fifth field is the label's span, and its count a word
-    let few = c.node_at-n.type-inv.1.1.1.1.1.1.0.1.1.1.0.1 in
-    (search rules, label_short _ _ _ _ _ _ _ c.requires.0 c.span_words-label.ensures few)
+    (search rules, label_short _ _ _ _ _ _ _ c.requires.0 c.span_words-label.ensures (search rules))
 
 pub returns-then-is_marked : goal.returns-then-is_marked
 returns-then-is_marked c = node_painted _ _ _ _ _ c.requires.0 _ _ _ _ _ _ c.node_at-n.ensures c.span_words-label.ensures c.header_of-header.ensures c.paint_node.ensures

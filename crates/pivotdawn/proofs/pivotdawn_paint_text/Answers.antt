@@ -9,5 +9,5 @@ returns c =
       written = c.paint_text-text.result;
       painted = c.paint_text-text.ensures;
       answered = refl;
-      in_words = text_words c.paint_text-text.result c.args.answer.now c.store.new.0 _ c.store.ensures c.store-2.ensures;
+      in_words = text_words c.paint_text-text.result c.args.answer.now c.store.new.words _ c.store.ensures c.store-2.ensures;
     }

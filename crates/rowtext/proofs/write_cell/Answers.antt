@@ -29,9 +29,3 @@ returns-clause-at_value c =
     let same = character_shown _ c.args.pen.colour c.args.colour _ c.shape_of-shape.ensures _ c.in-Character.is in
     let put_cell = put_as _ _ _ _ _ _ same.0 (c.put_character.ensures.at_value.0, c.put_character.ensures.out_after) in
     (put_cell.0, search (same, rules))
-
-pub returns-clause-out_after : goal.returns-clause-out_after
-returns-clause-out_after c =
-    let same = character_shown _ c.args.pen.colour c.args.colour _ c.shape_of-shape.ensures _ c.in-Character.is in
-    let put_cell = put_as _ _ _ _ _ _ same.0 (c.put_character.ensures.at_value.0, c.put_character.ensures.out_after) in
-    put_cell.1

@@ -1,6 +1,5 @@
 -- `put_bytes` meets its contract.
 use borrow.Author.Rules.{rules}
-use Prim.Native.Nat.{◌-◌}
 use Rattle.sequence.proofs.Laws.{no_byte_yet, byte_more}
 use Rattle.sequence.proofs.put_bytes.Goals as goal
 

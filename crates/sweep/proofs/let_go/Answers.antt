@@ -17,23 +17,23 @@ loop-i-preserved c =
       search rules,
       search (put_length, rules),
       search rules,
-      moved_again _ _ _ _ _ c.requires.1 c.loop-i.list c.loop-i.i c.loop-i.auto c.loop-i.invariant.4 (search rules) (get_or c.loop-i.list c.loop-i.i 0) refl c.loop-i.invariant.0
+      moved_again _ _ _ _ _ c.requires.1 c.loop-i.list c.loop-i.i c.loop-i.kept c.loop-i.invariant.4 (search rules) (get_or c.loop-i.list c.loop-i.i 0) refl c.loop-i.invariant.0
           _ _ c.reaches-wanted.result (search rules) tests c.put_if-kept.ensures.value c.put_if-kept.ensures.list_after,
-      unmarked_again _ _ _ _ _ c.requires.1 c.loop-i.list c.loop-i.i c.loop-i.auto c.loop-i.invariant.4 (search rules) (get_or c.loop-i.list c.loop-i.i 0) refl c.loop-i.invariant.0
+      unmarked_again _ _ _ _ _ c.requires.1 c.loop-i.list c.loop-i.i c.loop-i.kept c.loop-i.invariant.4 (search rules) (get_or c.loop-i.list c.loop-i.i 0) refl c.loop-i.invariant.0
           _ _ _ _ _ c.number-element.ensures.0 c.slot_at-slot.ensures c.unmark.ensures c.loop-i.invariant.5,
     )
 
 pub returns-clause-value : goal.returns-clause-value
 returns-clause-value c =
-    let moved = moved_done _ _ _ _ _ c.requires.1 c.loop-i.list c.loop-i.i c.loop-i.auto c.loop-i.invariant.4 (search rules) (search rules) in
+    let moved = moved_done _ _ _ _ _ c.requires.1 c.loop-i.list c.loop-i.i c.loop-i.kept c.loop-i.invariant.4 (search rules) (search rules) in
     moved.0
 
 pub returns-clause-list_after : goal.returns-clause-list_after
 returns-clause-list_after c =
-    let moved = moved_done _ _ _ _ _ c.requires.1 c.loop-i.list c.loop-i.i c.loop-i.auto c.loop-i.invariant.4 (search rules) (search rules) in
+    let moved = moved_done _ _ _ _ _ c.requires.1 c.loop-i.list c.loop-i.i c.loop-i.kept c.loop-i.invariant.4 (search rules) (search rules) in
     moved.1
 
 pub returns-clause-marks_after : goal.returns-clause-marks_after
 returns-clause-marks_after c =
-    let moved = moved_done _ _ _ _ _ c.requires.1 c.loop-i.list c.loop-i.i c.loop-i.auto c.loop-i.invariant.4 (search rules) (search rules) in
+    let moved = moved_done _ _ _ _ _ c.requires.1 c.loop-i.list c.loop-i.i c.loop-i.kept c.loop-i.invariant.4 (search rules) (search rules) in
     unmarked_done _ _ c.args.row _ _ c.requires.1 c.loop-i.i _ _ (search rules) c.loop-i.invariant.5

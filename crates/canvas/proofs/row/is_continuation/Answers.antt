@@ -8,4 +8,4 @@ unfolding is_continuation
 returns-in-Continuation c = rw (← c.read-parts.ensures, c.in-Continuation.is)
 
 pub returns-in_default : goal.returns-in_default
-returns-in_default c = no_continuation _ _ c.read.ensures c.in_default.not-Continuation
+returns-in_default c = no_continuation _ _ c.read-parts.ensures c.in_default.not-Continuation
