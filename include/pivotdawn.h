@@ -2,7 +2,7 @@
  * pivotdawn.h: check a sheet image, paint any band of its rows, or all of them, and write a
  * band as text.
  *
- * The archive that `rt staticlib pivotdawn` writes, target/staticlib/libpivotdawn.a, holds
+ * The archive that `oracle/native-library pivotdawn FOLDER` writes, FOLDER/libpivotdawn.a, holds
  * the seven functions declared at the end. Plain C99; C++ may include it too.
  *
  *   1. Get the image into memory, as words.
