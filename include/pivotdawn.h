@@ -50,8 +50,8 @@
  * image too, as long as no two share a buffer that is written.
  *
  * Leave a call 32 KiB of stack. Nothing calls itself, and the arrays on the stack are of
- * fixed size, whatever the image. Measured on x86-64, by filling the stack of a thread,
- * calling, and looking how far down it was written, with the frame of the caller, over 215
+ * fixed size, whatever the image. Measured on x86-64 with the older toolchain, by filling the
+ * stack of a thread, calling, and looking how far down it was written, with the frame of the caller, over 215
  * images, 10,491 bands of them, and each whole at up to ten band heights: check 13,096 bytes,
  * painting 18,760, coloured or not, text 18,760, coloured text 18,776, a whole sheet 18,792, a
  * coloured one 18,808. On Arm, when there was no call for a whole sheet or for text: check at
