@@ -131,13 +131,13 @@ module _ (S : Arms → Type 0) (Q : ℕ → Type 0)
   text_good : (ranges : List ℕ) (x y : ℕ) {glyphs : List ℕ} → AllOf Q glyphs → AllOf GoodSpot (text ranges x y glyphs)
   unfolding text
   text_good ranges x y none = none
-  text_good ranges x y (more a p) = more (spot (a_glyph a)) (text_good ranges _ y p)
+  text_good ranges x y (more {a = ch} a p) = more (spot (a_glyph a)) (text_good ranges (x + width_of ranges ch) y p)
 
   until_good : (ranges : List ℕ) (close x y : ℕ) {glyphs : List ℕ} → AllOf Q glyphs → AllOf GoodSpot (text_until ranges close x y glyphs)
   unfolding text_until
   until_good ranges close x y none = none
   until_good ranges close x y (more {a = ch} a p) =
-      all_when (leb (x + width_of ranges ch) close) (λ e. more (spot (a_glyph a)) (until_good ranges close _ y p))
+      all_when (leb (x + width_of ranges ch) close) (λ e. more (spot (a_glyph a)) (until_good ranges close (x + width_of ranges ch) y p))
 
   fitting_good : (ranges : List ℕ) (columns : ℕ) {glyphs : List ℕ} → AllOf Q glyphs → AllOf Q (fit_prefix glyphs ranges columns)
   unfolding fit_prefix
