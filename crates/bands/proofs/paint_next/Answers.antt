@@ -1,9 +1,15 @@
 -- `paint_next` selects by the sweep, paints the band, and passes it.
+use borrow.Author.Rules.{rules}
 use native.Mathlib.Omega.{arith}
 use mathlib.Core.Path.{sym}
 use Rattle.compose.proofs.Known.{walkable, marked_of}
-use Rattle.bands.proofs.Next.{rows_inside, list_room, list_swept, back_room, back_cut, back_front, list_again, room_again, stepped, swept_again, marks_long}
+use Rattle.bands.proofs.Next.{end_is, rows_inside, list_room, list_swept, back_room, back_cut, back_front, list_again, room_again, stepped, swept_again, marks_long}
 use Rattle.bands.proofs.paint_next.Goals as goal
+
+pub slice_bounds-select-end : goal.slice_bounds-select-end
+slice_bounds-select-end c =
+    let whole = end_is _ _ _ _ _ _ _ _ _ _ c.requires c.tables_of-ts.ensures.value c.scratch_room-needed.ensures in
+    search rules
 
 pub select-shown-requires : goal.select-shown-requires
 select-shown-requires c =

@@ -21,7 +21,7 @@ pub slice_bounds-paint_band-end-8 : goal.slice_bounds-paint_band-end-8
 slice_bounds-paint_band-end-8 c = sym (length-take-le _ _ (search rules))
 
 pub returns-clause-colours_after : goal.returns-clause-colours_after
-returns-clause-colours_after c = colours_left _ _ _ _ _ _ c.room-wanted.ensures c.scratch_room-needed.ensures _ _ _ _ _ _ c.paint_band.ensures.scratch_after _ c.paint_band.ensures.stamps_after
+returns-clause-colours_after c = colours_left _ _ _ _ _ _ c.room-wanted.ensures c.scratch_room-needed.ensures c.args.cells.now c.args.scratch.now _ _ _ _ c.paint_band.ensures.scratch_after _ c.paint_band.ensures.stamps_after
 
 pub returns-clause-stamps_after : goal.returns-clause-stamps_after
-returns-clause-stamps_after c = stamps_left _ _ _ _ _ _ c.room-wanted.ensures c.scratch_room-needed.ensures _ _ _ _ _ _ c.paint_band.ensures.scratch_after _ c.paint_band.ensures.stamps_after
+returns-clause-stamps_after c = stamps_left _ _ _ _ _ _ c.room-wanted.ensures c.scratch_room-needed.ensures c.args.cells.now c.args.scratch.now _ _ _ _ c.paint_band.ensures.scratch_after _ c.paint_band.ensures.stamps_after
