@@ -112,6 +112,9 @@ def respelled_page(text, turned):
 
 
 def main(argv):
+    if argv not in ([], ["--dry"]):
+        print(__doc__)
+        return
     crates = {name for name in os.listdir("crates") if os.path.isdir(f"crates/{name}/src")}
     every = glob.glob("crates/*/specs/**/*.antt", recursive=True) + glob.glob("crates/*/proofs/**/*.antt", recursive=True)
     sources = glob.glob("crates/*/src/**/*.rt", recursive=True)
