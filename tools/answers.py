@@ -7,7 +7,6 @@ NAMES is the folder that `rt names` wrote. What the search of the check finds is
 names alone is said ('left:'), and that answer is left out too.
 """
 
-import functools
 import glob
 import json
 import os
@@ -15,8 +14,6 @@ import re
 import sys
 
 WORD = r"[^\s(){}.;,@\"«»\[\]\\`:]+"
-TOKEN = re.compile(r"--[^\n]*|«[^»]*»|[(){}\[\];,]|" + WORD + r"|\s+|.", re.S)
-SEARCH = re.compile(r"^\(?search (rules|needs)\)?$")
 
 
 def read(path):
@@ -143,13 +140,9 @@ class Function:
         called, clauses = self.places[index][3], self.names["clauses"][index]
         if rest and rest[0] == "last" and called:
             mutable = self.mutable(called)
-            fields, at = rest[1:], 0
             if mutable is None:
                 raise Left(f"{'.'.join(rest)} of {called}")
-            if len(mutable) == 1:
-                pass
-            n = 0
-            path = list(fields)
+            n, path = 0, list(rest[1:])
             while path and path[0] == "1" and n < len(mutable) - 1:
                 path.pop(0)
                 n += 1
@@ -209,7 +202,6 @@ class Body:
         return ".".join(new)
 
     def turned(self, text):
-        out, i = [], 0
         pattern = re.compile(r"(?<![\w'.-])(" + "|".join(map(re.escape, self.known)) + r")((?:\.[^\s(){}.;,@\"«»\[\]\\]+)*)(?![\w'-])")
 
         def one(found):
@@ -420,7 +412,6 @@ def turn(crate, path, names, mutable, requires_of):
         if found:
             kind, loop = found[2], found[3]
             body = text.split("\n", 1)[1]
-            unfolding = ""
             m = re.match(re.escape(found[1]) + r"((?: \S+)*?) =(.*)", body, re.S)
             try:
                 new = next((n for (o, n), _ in listed["loops"] if plain(o) == plain(loop)), None)

@@ -66,7 +66,7 @@ def names_of(files, crates):
             continue
         for line in text.split("\n"):
             found = DECLARES.match(line)
-            if found and not (MADE.search(path) and not line.startswith(" ") and "goal." in line + "tie."):
+            if found and not (MADE.search(path) and not line.startswith(" ") and "goal." in line):
                 own.setdefault(found[1], set()).add(path)
         for found in BINDS.finditer(text):
             for name in (found[1] or found[2] or found[3]).split():
