@@ -14,7 +14,7 @@ use Rattle.canvas.proofs.PackedStroke.{arm_low}
 use Rattle.layout.specs.Layout.{edge_flags, weight_step, weights}
 use Rattle.layout.specs.Tables.{bits, field, tables_of}
 use Rattle.image.specs.Records.{edge_at}
-use Rattle.refusals.specs.declared.Verdict.TheVariants.{Passed}
+use Rattle.refusals.specs.FirstBroken.{Passed}
 use Rattle.refusals.specs.Rules.{checked}
 use Rattle.refusals.proofs.Theorems.{accepted_iff}
 use Rattle.picture.specs.Characters.{parts_at}

@@ -1,4 +1,5 @@
 -- The two arrows of an Orthogonal path, by a walk along its legs.
+use Rattle.std.specs.Prelude.{Option, Some, None}
 use mathlib.Core.Bool.{cond}
 use native.Mathlib.Omega.{arith}
 use Prim.Native.Nat.{ℕ, zero, suc, ◌+◌, ◌-◌, ◌<◌}
@@ -11,9 +12,7 @@ use Rattle.image.specs.declared.Edge.{Edge}
 use Rattle.image.specs.declared.Point.{Point}
 use Rattle.orthogonal.specs.declared.PathLeg.{PathLeg}
 use Rattle.orthogonal.specs.declared.Cursor.{Cursor}
-use Rattle.orthogonal.specs.declared.Step.TheVariants as step
 use Rattle.orthogonal.specs.declared.EndMark.{EndMark}
-use Rattle.orthogonal.specs.declared.EndMark.TheVariants as end
 use Rattle.orthogonal.specs.declared.EndMarks.{EndMarks}
 use Rattle.orthogonal.specs.Points.{stops, leg_count}
 use Rattle.orthogonal.specs.Orthogonal.{path_leg, source_mark, target_mark, end_marks}
@@ -22,11 +21,11 @@ use Rattle.orthogonal.proofs.Walked.{Stands, walk_begins, walk_goes, walk_ends}
 
 -- an arrow, as the first k legs of the walk leave it
 
-abbrev source_by : Edge → List Point → ℕ → EndMark
-source_by e path k = cond (eqb k 0) end.None (source_mark e path)
+abbrev source_by : Edge → List Point → ℕ → Option EndMark
+source_by e path k = cond (eqb k 0) None (source_mark e path)
 
-abbrev target_by : Edge → List Point → ℕ → EndMark
-target_by e path k = cond (ltb k (leg_count path)) end.None (target_mark e path)
+abbrev target_by : Edge → List Point → ℕ → Option EndMark
+target_by e path k = cond (ltb k (leg_count path)) None (target_mark e path)
 
 -- Tests that come to the same.
 
@@ -81,14 +80,14 @@ target_done : (e : Edge) (path : List Point) → target_by e path (leg_count pat
 target_done e path = rw (le-ltb (leg_count path) (leg_count path) (omega arith))
 
 -- that a cursor stands before a leg, and the arrows are as the legs before it leave them
-pub record MarksBy (e : Edge) (points : List ℕ) (c : Cursor) (source target : EndMark) : Type 0 where
+pub record MarksBy (e : Edge) (points : List ℕ) (c : Cursor) (source target : Option EndMark) : Type 0 where
   pub k : ℕ
   pub stands : Stands e points k c
   pub source_is : source ≡ source_by e (stops e points) k
   pub target_is : target ≡ target_by e (stops e points) k
 
 -- before the first leg there are none
-pub marks_begin : (e : Edge) (points : List ℕ) → MarksBy e points (begin_walk e points) end.None end.None
+pub marks_begin : (e : Edge) (points : List ℕ) → MarksBy e points (begin_walk e points) None None
 unfolding target_mark
 marks_begin e points = record {
   k = 0;
@@ -99,10 +98,10 @@ marks_begin e points = record {
       (λ p. rw (le-ltb 0 (leg_count (stops e points)) p));
 }
 
-module _ (e : Edge) (points : List ℕ) (c : Cursor) (source target : EndMark) (m : MarksBy e points c source target) where
+module _ (e : Edge) (points : List ℕ) (c : Cursor) (source target : Option EndMark) (m : MarksBy e points c source target) where
   -- after the last leg they are the path's
   pub marks_end :
-      step_of e points c ≡ step.Done →
+      step_of e points c ≡ None →
       ◌≡◌ {A = EndMarks} (record { source = source; target = target }) (end_marks e (stops e points))
   unfolding end_marks
   marks_end s =
@@ -114,7 +113,7 @@ module _ (e : Edge) (points : List ℕ) (c : Cursor) (source target : EndMark) (
   -- a leg has its say
   pub marks_turn :
       (leg : PathLeg) (past : Cursor) →
-      step_of e points c ≡ step.Leg leg past →
+      step_of e points c ≡ Some (leg, past) →
       MarksBy e points past (source_after e leg source) (target_after e leg target)
   marks_turn leg past s =
       let g = walk_goes e points m.k c m.stands leg past s in

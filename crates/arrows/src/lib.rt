@@ -8,7 +8,7 @@ ghost use Rattle.orthogonal.specs.Walk.{source_after, target_after};
 
 use cell::Dir;
 use image::{Edge, Point};
-use orthogonal::{EndMark, EndMarks, PathLeg, Step, walk};
+use orthogonal::{EndMark, EndMarks, PathLeg, walk};
 
 // From a cell toward another: "x compared first".
 pub fn toward(a: Point, t: Point) -> Dir
@@ -28,13 +28,13 @@ pub fn toward(a: Point, t: Point) -> Dir
 fn is_straight(a: Point, b: Point) -> bool
     ensures { result ≡ straight a b }
 {
-    if a.x == b.x { true } else { a.y == b.y }
+    a.x == b.x || a.y == b.y
 }
 
 fn apart(u: u32, v: u32) -> usize
     ensures { (result ≡ apart u v) × (result < 4294967296) }
 {
-    ground::number(if u < v { v - u } else { u - v })
+    ground::number(u.abs_diff(v))
 }
 
 // "a leg of length ≥ 2"
@@ -48,10 +48,7 @@ fn is_long(a: Point, b: Point) -> bool
 fn nearer(u: u32, v: u32) -> u32
     ensures { result ≡ nearer u v }
 {
-    if u < v {
-        return u + 1;
-    }
-    if 0 < u { u - 1 } else { 0 }
+    if u < v { u + 1 } else { u.saturating_sub(1) }
 }
 
 // One cell from a toward b, on a straight leg.
@@ -75,7 +72,7 @@ fn inside(a: Point, b: Point) -> Point
 fn mark_facing(at: Point, t: Point) -> EndMark
     ensures { result ≡ mark_facing at t }
 {
-    EndMark::At {
+    EndMark {
         x: ground::number(at.x),
         y: ground::number(at.y),
         dir: toward(at, t),
@@ -83,25 +80,26 @@ fn mark_facing(at: Point, t: Point) -> EndMark
 }
 
 // "one cell inside a leg of length ≥ 2, else the neighbouring bend, else none"; "slanted legs .. give no marker".
-fn end_mark(wanted: bool, only: bool, at: Point, next: Point) -> EndMark
+fn end_mark(wanted: bool, only: bool, at: Point, next: Point) -> Option<EndMark>
     ensures { result ≡ end_mark wanted only at next }
 {
-    if wanted {
-        if is_straight(at, next) {
-            if is_long(at, next) {
-                return mark_facing(inside(at, next), at);
-            }
-            if only {
-                return EndMark::None;
-            }
-            return mark_facing(next, at);
-        }
+    if !wanted {
+        return None;
     }
-    EndMark::None
+    if !is_straight(at, next) {
+        return None;
+    }
+    if is_long(at, next) {
+        Some(mark_facing(inside(at, next), at))
+    } else if only {
+        None
+    } else {
+        Some(mark_facing(next, at))
+    }
 }
 
 // What a leg makes of the source's arrow: the first leg decides it.
-fn source_after(e: Edge, leg: PathLeg, source: EndMark) -> EndMark
+fn source_after(e: Edge, leg: PathLeg, source: Option<EndMark>) -> Option<EndMark>
     ensures { result ≡ source_after e leg source }
 {
     let from = leg.from;
@@ -114,7 +112,7 @@ fn source_after(e: Edge, leg: PathLeg, source: EndMark) -> EndMark
 }
 
 // What a leg makes of the target's arrow: the last leg decides it.
-fn target_after(e: Edge, leg: PathLeg, target: EndMark) -> EndMark
+fn target_after(e: Edge, leg: PathLeg, target: Option<EndMark>) -> Option<EndMark>
     ensures { result ≡ target_after e leg target }
 {
     let from = leg.from;
@@ -130,19 +128,13 @@ fn target_after(e: Edge, leg: PathLeg, target: EndMark) -> EndMark
 pub fn end_marks(e: Edge, points: &[u32]) -> EndMarks
     ensures { result ≡ end_marks e (stops e points.now) }
 {
-    let mut source = EndMark::None;
-    let mut target = EndMark::None;
+    let mut source = None;
+    let mut target = None;
     let mut cursor = walk::begin_walk(e, points);
-    loop {
-        let step = cursor.step(e, points);
-        let Step::Leg(leg, next) = step else {
-            return EndMarks {
-                source: source,
-                target: target,
-            };
-        };
+    while let Some((leg, next)) = cursor.step(e, points) {
         source = source_after(e, leg, source);
         target = target_after(e, leg, target);
         cursor = next;
     }
+    EndMarks { source, target }
 }

@@ -36,7 +36,7 @@ fn part_of(image: &[u32], top: usize, rows: usize) -> Part
     let start = lending::room(image, top);
     let words = lending::room(image, rows);
     Part {
-        start: start,
+        start,
         end: start + words,
     }
 }
@@ -237,6 +237,7 @@ pub fn paint_bands(
     // made once for the sheet: each band takes its own marks back
     let mut marks = [0u8; elements::SLOT_COUNT];
     let mut sweep = sweep::start();
+    // each step leaves in the record where the next band begins: no range says so
     while sweep.next < height {
         sweep = step_from(
             sweep, image, band, lent, cells, colours, stamps, scratch, &mut marks,

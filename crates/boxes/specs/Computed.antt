@@ -1,8 +1,7 @@
 -- For the proofs alone: what the code makes a box of.
-use Rattle.std.specs.Prelude.{ℕ, Bool, true, false, List, [], ◌∷◌}
+use Rattle.std.specs.Prelude.{ℕ, Bool, true, false, List, [], ◌∷◌, None}
 use Rattle.cell.specs.declared.Weight.{Weight}
 use Rattle.rows.specs.Spots.{Spot, at, stroke}
-use Rattle.flow.specs.declared.Head.TheVariants.{None}
 use Rattle.flow.specs.declared.Line.{Line}
 use Rattle.flow.specs.Flow.{corner}
 

@@ -8,7 +8,7 @@ ghost use Rattle.frame.specs.Frames.{corners, across, down, box};
 ghost use Rattle.boxes.specs.Computed.{plain_line, corner_pair};
 
 use cell::{Arms, Weight};
-use flow::{Head, Line};
+use flow::Line;
 use rows::Window;
 use window::{Lent, Tint};
 
@@ -20,8 +20,8 @@ fn plain(lane: usize, from: usize, to: usize) -> Line
         lane: lane,
         from: from,
         to: to,
-        winner: Head::None,
-        other: Head::None,
+        winner: None,
+        other: None,
     }
 }
 

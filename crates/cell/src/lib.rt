@@ -1,7 +1,7 @@
 // One cell of the picture: its parts, packed into a word and read back, and the three rules by which ink falls on what is there.
 #![tactic(auto)]
 
-ghost use Rattle.std.specs.Prelude.{◌≡◌, ◌<◌, ◌≤◌};
+ghost use Rattle.std.specs.Prelude.{◌≡◌, ◌<◌, ◌≤◌, ltb};
 ghost use Rattle.cell.specs.OneCell.{weight_number, marker_number, dir_number, weight_of, marker_of, dir_of};
 ghost use Rattle.cell.specs.OneCell.{vertical, horizontal, pack_arms, pack_marker, pack, read_arms, read_text, read_marker, read};
 ghost use Rattle.cell.specs.OneCell.{heavier, heavier_arms, is_double, has_double, stem};
@@ -9,55 +9,64 @@ ghost use Rattle.cell.specs.Computed.{double_on};
 ghost use Rattle.cell.specs.OneCell.{stroked, marked, painted_stroke, painted_marker, painted_text};
 
 // The weight of one arm of a stroke.
-#[derive(Clone, Copy)]
+#[derive(Clone, Copy, PartialEq, Eq)]
 pub enum Weight {
     // No arm.
-    None,
+    None = 0,
     // Weaker than any other arm.
-    Dashed,
+    Dashed = 1,
     // The usual line.
-    Light,
+    Light = 2,
     // The heaviest: it alone replaces text and markers.
-    Double,
+    Double = 3,
 }
 
-impl Weight {
-    pub fn number(self) -> u32
-        ensures { (result ≡ weight_number self) × (result ≤ 3) }
-    {
-        match self {
-            Weight::None => 0,
-            Weight::Dashed => 1,
-            Weight::Light => 2,
-            Weight::Double => 3,
-        }
-    }
+impl From<Weight> for u32 {
+    ghost from_gives = { λ weight number. (number ≡ weight_number weight) × (number ≤ 3) };
 
-    pub fn from_bits(bits: u32) -> Weight
-        ensures { result ≡ weight_of bits }
-    {
-        match bits {
+    fn from(weight: Weight) -> u32 {
+        weight as u32
+    }
+}
+
+// A number that no weight has is no arm.
+impl From<u32> for Weight {
+    ghost from_gives = { λ number weight. weight ≡ weight_of number };
+
+    fn from(number: u32) -> Weight {
+        match number {
             1 => Weight::Dashed,
             2 => Weight::Light,
             3 => Weight::Double,
             _ => Weight::None,
         }
     }
+}
 
-    // "the greater weight per arm"
+impl Weight {
+    // "the greater weight per arm". The numbers are compared, since a derived order reads each weight from a table, at twice the instructions, here where
+    // a painting spends most.
     pub fn max(self, other: Weight) -> Weight
         ensures { result ≡ heavier self other }
     {
-        let mine = self.number();
-        let theirs = other.number();
-        if theirs <= mine { self } else { other }
+        if other as u32 <= self as u32 {
+            self
+        } else {
+            other
+        }
+    }
+
+    // Whether it is an arm at all.
+    pub fn is_arm(self) -> bool
+        ensures { result ≡ ltb 0 (weight_number self) }
+    {
+        self != Weight::None
     }
 
     pub fn is_double(self) -> bool
         ensures { result ≡ is_double self }
     {
-        let n = self.number();
-        n == 3
+        self == Weight::Double
     }
 }
 
@@ -65,28 +74,27 @@ impl Weight {
 #[derive(Clone, Copy)]
 pub enum MarkerKind {
     // The head of an edge, pointing in its direction.
-    Arrow,
+    Arrow = 1,
     // The sign of an edge from a node to itself.
-    SelfLoop,
+    SelfLoop = 2,
     // The place of a node that only the layout has.
-    Dummy,
+    Dummy = 3,
 }
 
-impl MarkerKind {
-    pub fn number(self) -> u32
-        ensures { (result ≡ marker_number self) × (result ≤ 3) }
-    {
-        match self {
-            MarkerKind::Arrow => 1,
-            MarkerKind::SelfLoop => 2,
-            MarkerKind::Dummy => 3,
-        }
-    }
+impl From<MarkerKind> for u32 {
+    ghost from_gives = { λ kind number. (number ≡ marker_number kind) × (number ≤ 3) };
 
-    pub fn from_bits(bits: u32) -> MarkerKind
-        ensures { result ≡ marker_of bits }
-    {
-        match bits {
+    fn from(kind: MarkerKind) -> u32 {
+        kind as u32
+    }
+}
+
+// A number that no other kind has is an arrow's.
+impl From<u32> for MarkerKind {
+    ghost from_gives = { λ number kind. kind ≡ marker_of number };
+
+    fn from(number: u32) -> MarkerKind {
+        match number {
             2 => MarkerKind::SelfLoop,
             3 => MarkerKind::Dummy,
             _ => MarkerKind::Arrow,
@@ -98,31 +106,29 @@ impl MarkerKind {
 #[derive(Clone, Copy)]
 pub enum Dir {
     // To the row above.
-    Up,
+    Up = 0,
     // To the row below.
-    Down,
+    Down = 1,
     // To the column before.
-    Left,
+    Left = 2,
     // To the column after.
-    Right,
+    Right = 3,
 }
 
-impl Dir {
-    pub fn number(self) -> u32
-        ensures { (result ≡ dir_number self) × (result ≤ 3) }
-    {
-        match self {
-            Dir::Up => 0,
-            Dir::Down => 1,
-            Dir::Left => 2,
-            Dir::Right => 3,
-        }
-    }
+impl From<Dir> for u32 {
+    ghost from_gives = { λ dir number. (number ≡ dir_number dir) × (number ≤ 3) };
 
-    pub fn from_bits(bits: u32) -> Dir
-        ensures { result ≡ dir_of bits }
-    {
-        match bits {
+    fn from(dir: Dir) -> u32 {
+        dir as u32
+    }
+}
+
+// A number that no other direction has is Right's.
+impl From<u32> for Dir {
+    ghost from_gives = { λ number dir. dir ≡ dir_of number };
+
+    fn from(number: u32) -> Dir {
+        match number {
             0 => Dir::Up,
             1 => Dir::Down,
             2 => Dir::Left,
@@ -145,6 +151,14 @@ pub struct Arms {
 }
 
 impl Arms {
+    // No arm.
+    const NONE: Arms = Arms {
+        up: Weight::None,
+        down: Weight::None,
+        left: Weight::None,
+        right: Weight::None,
+    };
+
     // A line that goes through a cell, along the rows and along the columns.
     pub fn vertical(w: Weight) -> Arms
         ensures { result ≡ vertical w }
@@ -152,8 +166,7 @@ impl Arms {
         Arms {
             up: w,
             down: w,
-            left: Weight::None,
-            right: Weight::None,
+            ..Arms::NONE
         }
     }
 
@@ -161,10 +174,9 @@ impl Arms {
         ensures { result ≡ horizontal w }
     {
         Arms {
-            up: Weight::None,
-            down: Weight::None,
             left: w,
             right: w,
+            ..Arms::NONE
         }
     }
 
@@ -172,11 +184,10 @@ impl Arms {
     pub fn pack(self) -> u32
         ensures { (result ≡ pack_arms self) × (result < 4096) }
     {
-        let up = self.up;
-        let down = self.down;
-        let left = self.left;
-        let right = self.right;
-        up.number() + 8 * down.number() + 64 * left.number() + 512 * right.number()
+        u32::from(self.up)
+            + 8 * u32::from(self.down)
+            + 64 * u32::from(self.left)
+            + 512 * u32::from(self.right)
     }
 
     // The arms of any word.
@@ -184,10 +195,10 @@ impl Arms {
         ensures { result ≡ read_arms word }
     {
         Arms {
-            up: Weight::from_bits(word % 8),
-            down: Weight::from_bits(word / 8 % 8),
-            left: Weight::from_bits(word / 64 % 8),
-            right: Weight::from_bits(word / 512 % 8),
+            up: Weight::from(word % 8),
+            down: Weight::from(word / 8 % 8),
+            left: Weight::from(word / 64 % 8),
+            right: Weight::from(word / 512 % 8),
         }
     }
 
@@ -195,62 +206,40 @@ impl Arms {
     pub fn max(self, other: Arms) -> Arms
         ensures { result ≡ heavier_arms self other }
     {
-        let up = self.up;
-        let down = self.down;
-        let left = self.left;
-        let right = self.right;
-        let other_up = other.up;
-        let other_down = other.down;
-        let other_left = other.left;
-        let other_right = other.right;
         Arms {
-            up: up.max(other_up),
-            down: down.max(other_down),
-            left: left.max(other_left),
-            right: right.max(other_right),
+            up: self.up.max(other.up),
+            down: self.down.max(other.down),
+            left: self.left.max(other.left),
+            right: self.right.max(other.right),
         }
     }
 
     pub fn has_double(self) -> bool
         ensures { result ≡ has_double self }
     {
-        let up = self.up;
-        let down = self.down;
-        let left = self.left;
-        let right = self.right;
-        up.is_double() | down.is_double() | left.is_double() | right.is_double()
+        self.up.is_double() | self.down.is_double() | self.left.is_double() | self.right.is_double()
     }
 
     // "a Light stem in its direction"
     pub fn stem(dir: Dir) -> Arms
         ensures { result ≡ stem dir }
     {
-        let n = Weight::None;
-        let l = Weight::Light;
         match dir {
             Dir::Up => Arms {
-                up: l,
-                down: n,
-                left: n,
-                right: n,
+                up: Weight::Light,
+                ..Arms::NONE
             },
             Dir::Down => Arms {
-                up: n,
-                down: l,
-                left: n,
-                right: n,
+                down: Weight::Light,
+                ..Arms::NONE
             },
             Dir::Left => Arms {
-                up: n,
-                down: n,
-                left: l,
-                right: n,
+                left: Weight::Light,
+                ..Arms::NONE
             },
             Dir::Right => Arms {
-                up: n,
-                down: n,
-                left: n,
-                right: l,
+                right: Weight::Light,
+                ..Arms::NONE
             },
         }
     }
@@ -325,11 +314,7 @@ impl Parts {
     {
         match self {
             Parts::Text(_) | Parts::Continuation => self,
-            _ => Parts::Marker {
-                kind: kind,
-                dir: dir,
-                dashed: dashed,
-            },
+            _ => Parts::Marker { kind, dir, dashed },
         }
     }
 }
@@ -338,7 +323,7 @@ impl Parts {
 fn pack_marker(kind: MarkerKind, dir: Dir, dashed: bool) -> u32
     ensures { (result ≡ pack_marker kind dir dashed) × (result < 128) }
 {
-    let low = kind.number() + 16 * dir.number();
+    let low = u32::from(kind) + 16 * u32::from(dir);
     if dashed { low + 64 } else { low }
 }
 
@@ -358,9 +343,9 @@ fn read_marker(word: u32) -> Parts
 {
     let dashed = word / 64 % 2 == 1;
     Parts::Marker {
-        kind: MarkerKind::from_bits(word % 16),
-        dir: Dir::from_bits(word / 16 % 4),
-        dashed: dashed,
+        kind: MarkerKind::from(word % 16),
+        dir: Dir::from(word / 16 % 4),
+        dashed,
     }
 }
 
@@ -389,42 +374,32 @@ impl Cell {
     pub fn text(ch: u32) -> Cell
         ensures { result.0 ≡ pack (Parts.Text ch) }
     {
-        let parts = Parts::Text(ch);
-        Cell(parts.pack())
+        Cell(Parts::Text(ch).pack())
     }
 
     pub fn stroke(arms: Arms) -> Cell
         ensures { result.0 ≡ pack (Parts.Stroke arms) }
     {
-        let parts = Parts::Stroke(arms);
-        Cell(parts.pack())
+        Cell(Parts::Stroke(arms).pack())
     }
 
     pub fn marker(kind: MarkerKind, dir: Dir, dashed: bool) -> Cell
         ensures { result.0 ≡ pack (Parts.Marker kind dir dashed) }
     {
-        let parts = Parts::Marker {
-            kind: kind,
-            dir: dir,
-            dashed: dashed,
-        };
+        let parts = Parts::Marker { kind, dir, dashed };
         Cell(parts.pack())
     }
 
     pub fn painted_stroke(self, new: Arms) -> Cell
         ensures { result.0 ≡ painted_stroke self.0 new }
     {
-        let old = Parts::read(self.0);
-        let parts = old.stroked(new);
-        Cell(parts.pack())
+        Cell(Parts::read(self.0).stroked(new).pack())
     }
 
     pub fn painted_marker(self, kind: MarkerKind, dir: Dir, dashed: bool) -> Cell
         ensures { result.0 ≡ painted_marker self.0 kind dir dashed }
     {
-        let old = Parts::read(self.0);
-        let parts = old.marked(kind, dir, dashed);
-        Cell(parts.pack())
+        Cell(Parts::read(self.0).marked(kind, dir, dashed).pack())
     }
 
     // "Text replaces everything."

@@ -1,9 +1,6 @@
 -- What is known of the next image of the stream: it has room.
-use Rattle.std.specs.Prelude.{◌≤◌}
-use Rattle.checklines.specs.declared.Next.{Next}
-use Rattle.checklines.specs.declared.Next.TheVariants.{Image, End, Unread}
+use Rattle.std.specs.Prelude.{ℕ, ◌≤◌, Result, Option, IfOk, IfSome}
+use Rattle.checklines.specs.declared.Stop.{Stop}
 
-abbrev pub Fitting : Next → Type 0
-Fitting (Image count) = count ≤ 131072
-Fitting End = Unit {0}
-Fitting Unread = Unit {0}
+abbrev pub Fitting : Result (Option ℕ) Stop → Type 0
+Fitting next = IfOk next (λ image. IfSome image (λ count. count ≤ 131072))

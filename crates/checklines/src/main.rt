@@ -5,87 +5,59 @@
 ghost use Rattle.std.specs.Prelude.{◌≡◌, ◌≤◌, length};
 ghost use Rattle.checklines.specs.Stream.{Fitting};
 
-use refusals::Answer;
 use std::io;
 
-// What stands next on the stream.
-#[derive(Clone, Copy)]
-enum Next {
-    // an image of so many words
-    Image(usize),
-    // the stream ends
-    End,
-    // it breaks off, or the image is too long for this program
+// The most words of an image.
+const MOST_WORDS: usize = 131072;
+
+// Why the images of a stream are not all answered.
+enum Stop {
+    // the stream breaks off, or an image is too long for this program
     Unread,
+    // an answer cannot be written
+    Unwritten(io::Error),
 }
 
-// How many words the next image has.
-fn next_count<R: io::Read>(from: &mut R) -> Next
+impl From<io::Error> for Stop {
+    fn from(refusal: io::Error) -> Stop {
+        Stop::Unwritten(refusal)
+    }
+}
+
+// How many words the next image has; none where the stream ends.
+fn next_count<R: io::Read>(from: &mut R) -> Result<Option<usize>, Stop>
     ensures { Fitting result }
 {
     let mut head = [0u8; 4];
     let got = input::read_full(from, &mut head);
     if got == 0 {
-        return Next::End;
-    }
-    if got < 4 {
-        return Next::Unread;
+        return Ok(None);
     }
     let count = ground::number(wordfile::word_at(&head, 0));
-    if count <= 131072 {
-        Next::Image(count)
-    } else {
-        Next::Unread
+    if got < 4 || MOST_WORDS < count {
+        return Err(Stop::Unread);
     }
+    Ok(Some(count))
 }
 
-fn say_unread(rt: &impl Print) -> io::Result<()> {
-    rt.write_all(b"unread\n")
-}
-
-fn say_answer(rt: &impl Print, answer: Answer) -> io::Result<()> {
-    println!(rt; "{} {} {}", answer.code, answer.place, answer.runs)
-}
-
-// Reads an image of so many words and answers it; and whether it could be read.
+// Reads an image of so many words and answers it.
 fn answer_image<R: io::Read>(
     rt: &impl Print,
     from: &mut R,
     count: usize,
     bytes: &mut [u8],
     words: &mut [u32],
-) -> io::Result<bool>
+) -> Result<(), Stop>
     requires { (count ≤ 131072) × (length bytes.old ≡ 524288) × (length words.old ≡ 131072) }
 {
     let size = 4 * count;
-    let got = input::read_full(from, &mut bytes[..size]);
-    if got < size {
-        say_unread(rt)?;
-        return Ok(false);
+    if input::read_full(from, &mut bytes[..size]) < size {
+        return Err(Stop::Unread);
     }
     wordfile::fill(&bytes[..size], words);
-    say_answer(rt, refusals::check(&words[..count]))?;
-    Ok(true)
-}
-
-// Answers the next image; and whether there may be another.
-fn step<R: io::Read>(
-    rt: &impl Print,
-    from: &mut R,
-    bytes: &mut [u8],
-    words: &mut [u32],
-) -> io::Result<bool>
-    requires { (length bytes.old ≡ 524288) × (length words.old ≡ 131072) }
-{
-    let next = next_count(from);
-    match next {
-        Next::Image(count) => answer_image(rt, from, count, bytes, words),
-        Next::End => Ok(false),
-        Next::Unread => {
-            say_unread(rt)?;
-            Ok(false)
-        }
-    }
+    let answer = refusals::check(&words[..count]);
+    println!(rt; "{} {} {}", answer.code, answer.place, answer.runs)?;
+    Ok(())
 }
 
 // Answers the images of the stream. A proved loop has to end, and nothing says that a stream does: the turns are counted up to a number that no stream reaches.
@@ -94,13 +66,14 @@ fn answer_all<R: io::Read>(
     from: &mut R,
     bytes: &mut [u8],
     words: &mut [u32],
-) -> io::Result<()>
+) -> Result<(), Stop>
     requires { (length bytes.old ≡ 524288) × (length words.old ≡ 131072) }
 {
     for _ in 0..u64::MAX {
-        if !step(rt, from, bytes, words)? {
-            return Ok(());
-        }
+        let Some(count) = next_count(from)? else {
+            break;
+        };
+        answer_image(rt, from, count, bytes, words)?;
     }
     Ok(())
 }
@@ -109,14 +82,18 @@ fn answer_all<R: io::Read>(
 fn lend_all<R: io::Read>(
     rt: &impl Print,
     from: &mut R,
-    bytes: &mut [u8; 524288],
-    words: &mut [u32; 131072],
+    bytes: &mut [u8; 4 * MOST_WORDS],
+    words: &mut [u32; MOST_WORDS],
 ) -> io::Result<()> {
-    answer_all(rt, from, bytes, words)
+    match answer_all(rt, from, bytes, words) {
+        Ok(()) => Ok(()),
+        Err(Stop::Unread) => println!(rt; "unread"),
+        Err(Stop::Unwritten(refusal)) => Err(refusal),
+    }
 }
 
 fn main(rt: HostRuntime) -> io::Result<()> {
-    let mut bytes = [0u8; 524288];
-    let mut words = [0u32; 131072];
+    let mut bytes = [0u8; 4 * MOST_WORDS];
+    let mut words = [0u32; MOST_WORDS];
     lend_all(&rt, &mut rt.stdin(), &mut bytes, &mut words)
 }

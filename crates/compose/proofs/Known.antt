@@ -5,15 +5,14 @@ use Prim.Native.Nat.{ℕ, ◌+◌, ◌*◌, ◌≤◌}
 use mathlib.Core.List.{List}
 use mathlib.Core.Path.{◌≡◌, refl, sym, ◌∙◌}
 use lib.ListN.{length, replicate, length-replicate}
+use Rattle.std.specs.Prelude.{Ok, Err}
 use Rattle.layout.specs.declared.Tables.{Tables}
 use Rattle.layout.specs.Small.{AllSmall}
 use Rattle.layout.specs.Tables.{tables_of}
 use Rattle.image.specs.declared.ElementKind.TheVariants as kind
 use Rattle.rows.specs.declared.Window.{Window}
 use Rattle.things.specs.Things.{ranges_of, sheet_of}
-use Rattle.refusals.specs.declared.Verdict.{Verdict}
-use Rattle.refusals.specs.declared.Verdict.TheVariants.{Passed, Refused}
-use Rattle.refusals.specs.FirstBroken.{first_broken}
+use Rattle.refusals.specs.FirstBroken.{Verdict, Passed, Refused, first_broken}
 use Rattle.refusals.specs.Rules.{form_rules, listing_rules, rules}
 use Rattle.refusals.specs.Accepted.{Keeps}
 use Rattle.refusals.proofs.FirstBroken.{and_then, broken_append}
@@ -42,8 +41,8 @@ form_passed image keeps =
     (sym (broken_append (form_rules image) (listing_rules image (tables_of image))) ∙ accepted_passes image ((accepted_iff image).1 keeps))
   where
     first_half : (v w : Verdict) → and_then v w ≡ Passed → v ≡ Passed
-    first_half Passed w e = refl
-    first_half (Refused code place) w e = e
+    first_half (Ok passed) w e = refl
+    first_half (Err refusal) w e = e
 
 module _ (image : List ℕ) (ts : Tables) (keeps : Keeps image) (t : ts ≡ tables_of image) where
   pub walkable : AllSmall ts → Walkable image ts

@@ -34,8 +34,8 @@ pub fn paint_selected(
     let ranges = image::table_words(image, ts.ranges);
     let v = Window {
         width: ground::number(word(image, HEADER_WIDTH)),
-        first: first,
-        rows: rows,
+        first,
+        rows,
     };
     clear::clear(cells);
     clear::clear_plane(colours, lent);

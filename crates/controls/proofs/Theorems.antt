@@ -3,11 +3,11 @@ use native.Mathlib.Omega.{arith}
 use Prim.Native.Nat.{ℕ}
 use mathlib.Core.Bool.{true, ◌&&◌, or-true}
 use mathlib.Core.List.{List}
-use mathlib.Core.Logic.{◌↔◌, ◌⊎◌, inl, inr, ⊎_elim}
+use mathlib.Core.Logic.{◌↔◌, inl, inr, ⊎_elim}
 use mathlib.Core.Path.{◌≡◌}
 use lib.Dec.{leb}
 use borrow.Author.Tests.{le-leb, leb-true, not-true}
-use Rattle.ground.specs.declared.Found.TheVariants as found
+use Rattle.std.specs.Prelude.{None}
 use Rattle.ground.specs.Judged.{first_bad}
 use Rattle.ground.proofs.Each.{by_bool, and_left, and_right}
 use Rattle.layout.specs.declared.Table.{Table}
@@ -33,7 +33,7 @@ control_iff value = (
 )
 
 -- No glyph is found exactly where none is a control character.
-pub controls_iff : (image : List ℕ) (glyphs : Table) → (first_bad (controls_judged image glyphs) ≡ found.None) ↔ NoControls image glyphs
+pub controls_iff : (image : List ℕ) (glyphs : Table) → (first_bad (controls_judged image glyphs) ≡ None) ↔ NoControls image glyphs
 unfolding controls_judged
 controls_iff image glyphs =
     let each = records_good_iff glyphs (printable image glyphs) in (

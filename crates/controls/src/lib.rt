@@ -7,7 +7,6 @@ ghost use Rattle.layout.specs.Inside.{Inside};
 ghost use Rattle.layout.specs.Layout.{glyph_size};
 ghost use Rattle.controls.specs.Controls.{is_control, controls_judged};
 
-use ground::Found;
 use layout::Table;
 
 // Whether a value is a control character, which a terminal or a printer would obey and not print.
@@ -18,17 +17,12 @@ pub fn is_control(value: u32) -> bool
 }
 
 // Code 13: the first glyph word that holds one.
-pub fn first_control(image: &[u32], glyphs: Table) -> Found
+pub fn first_control(image: &[u32], glyphs: Table) -> Option<usize>
     requires { Inside image.now glyph_size glyphs }
     ensures { result ≡ first_bad (controls_judged image.now glyphs) }
 {
-    let count = glyphs.count;
-    let mut k: usize = 0;
-    while k < count {
-        if is_control(layout::field_inside(image, glyphs, k, layout::GLYPH_VALUE)) {
-            return Found::At(layout::record_at(glyphs, k));
-        }
-        k += 1;
-    }
-    Found::None
+    ground::first_found(glyphs.count, |k| {
+        let value = layout::field_inside(image, glyphs, k, layout::GLYPH_VALUE);
+        is_control(value).then_some(layout::record_at(glyphs, k))
+    })
 }

@@ -1,21 +1,18 @@
 -- Laws over plain values, which the functions' proofs cite: a corner below 0, edge by edge.
-use Prim.Native.Nat.{ℕ, ◌+◌, ◌≤◌, ◌<◌}
-use mathlib.Core.Bool.{Bool, true, false, not}
+use Prim.Native.Nat.{ℕ}
+use mathlib.Core.Bool.{Bool, false}
 use mathlib.Core.List.{List}
 use mathlib.Core.Path.{◌≡◌, ◌∙◌}
 use lib.Dec.{eqb}
 use borrow.Author.Tests.{ne_eqb}
-use Rattle.ground.specs.declared.Found.{Found}
-use Rattle.ground.specs.declared.Found.TheVariants as found
 use Rattle.ground.proofs.Each.{by_bool}
 use Rattle.layout.specs.declared.Tables.{Tables}
 use Rattle.layout.specs.Layout.{edge_flags, path_step, paths, path_corner, path_side_channel, path_multi_segment, path_orthogonal, path_spline}
-use Rattle.layout.specs.Tables.{bits, field, record_at}
+use Rattle.layout.specs.Tables.{bits, field}
 use Rattle.image.specs.declared.Edge.{Edge}
 use Rattle.image.specs.Records.{path_of, edge_at}
 use Rattle.image.specs.Spans.{points_of}
 use Rattle.path.specs.Corners.{below_of, corner_below}
-use Rattle.elements.proofs.Records.{found_from, records_again, records_hit, records_done}
 use Rattle.corners.specs.Corners.{edge_below}
 
 pub edge_below_lem :
@@ -39,17 +36,3 @@ pub legless_below :
     false ≡ edge_below image ts k
 unfolding edge_at
 legless_below image ts k flags number f n h = no_legs (bits (field image ts.edges k edge_flags) path_step paths) _ _ _ _ _ (rw (← f, ← n) h)
-
-abbrev pub above_zero : List ℕ → Tables → ℕ → Bool
-above_zero image ts k = not (edge_below image ts k)
-
-module _ (image : List ℕ) (ts : Tables) (k : ℕ) (first : Found) where
-  module _ (below : Bool) (h : k < ts.edges.count) (i : found_from ts.edges (above_zero image ts) k ≡ first) (e : below ≡ edge_below image ts k) where
-    pub corner_kept : below ≡ false → found_from ts.edges (above_zero image ts) (k + 1) ≡ first
-    corner_kept z = records_again ts.edges (above_zero image ts) k first h i (rw (← e, z))
-
-    pub corner_broken : (place : ℕ) → place ≡ record_at ts.edges k → below ≡ true → found.At place ≡ first
-    corner_broken place p z = records_hit ts.edges (above_zero image ts) k first h i place p (rw (← e, z))
-
-  pub corner_done : ts.edges.count ≤ k → found_from ts.edges (above_zero image ts) k ≡ first → found.None ≡ first
-  corner_done h i = records_done ts.edges (above_zero image ts) k first h i

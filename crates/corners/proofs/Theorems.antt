@@ -1,4 +1,5 @@
 -- Code 6 finds nothing exactly where no corner of a MultiSegment lies below 0.
+use Rattle.std.specs.Prelude.{Option, Some, None}
 use native.Mathlib.Omega.{arith}
 use Prim.Native.Nat.{ℕ, ◌+◌, ◌≤◌, ◌<◌}
 use mathlib.Core.Bool.{Bool, false, not, ◌&&◌, and-false}
@@ -7,7 +8,7 @@ use mathlib.Core.Logic.{◌↔◌}
 use mathlib.Core.Path.{◌≡◌, refl}
 use lib.Dec.{eqb}
 use borrow.Author.Tests.{eq-eqb, ne_eqb, not-true}
-use Rattle.ground.specs.declared.Found.TheVariants as found
+use Rattle.std.specs.Prelude.{None}
 use Rattle.ground.specs.Judged.{first_bad}
 use Rattle.ground.proofs.Each.{by_bool, number_some, none_number}
 use Rattle.layout.specs.declared.Tables.{Tables}
@@ -18,8 +19,6 @@ use Rattle.image.specs.declared.Path.{Path}
 use Rattle.image.specs.declared.Path.TheVariants.{Direct, Corner, SideChannel, MultiSegment, Orthogonal, Spline}
 use Rattle.image.specs.Records.{edge_at}
 use Rattle.rows.proofs.Windows.{clash}
-use Rattle.flow.specs.declared.Coordinate.{Coordinate}
-use Rattle.flow.specs.declared.Coordinate.TheVariants.{At, Below}
 use Rattle.flow.specs.declared.Leg.{Leg}
 use Rattle.y_flow.specs.YFlow.{corner_row}
 use Rattle.x_flow.specs.XFlow.{corner_column}
@@ -31,10 +30,10 @@ use Rattle.things.specs.Things.{edge_points}
 use Rattle.corners.specs.Corners.{edge_below, corners_judged, LegAbove, CornersAbove}
 
 -- a corner where two coordinates differ
-bent_iff : (a b : ℕ) (at : Coordinate) → (not (eqb a b) && is_below at ≡ false) ↔ ((a ≡ b → ⊥) → at ≡ Below → ⊥)
+bent_iff : (a b : ℕ) (at : Option ℕ) → (not (eqb a b) && is_below at ≡ false) ↔ ((a ≡ b → ⊥) → at ≡ None → ⊥)
 unfolding is_below
-bent_iff a b (At n) = (λ h p q. let z : ◌≡◌ {A = ℕ} 0 1 = cc in omega arith, λ h. and-false (not (eqb a b)))
-bent_iff a b Below = (
+bent_iff a b (Some n) = (λ h p q. let z : ◌≡◌ {A = ℕ} 0 1 = cc in omega arith, λ h. and-false (not (eqb a b)))
+bent_iff a b None = (
   λ h p q. clash (rw (ne_eqb a b p)) h,
   λ h. by_bool (eqb a b) (λ t. rw t) (λ t. absurd (h (λ e. clash (eq-eqb a b e) t) refl)),
 )
@@ -86,7 +85,7 @@ above_path Spline e points a g = refl
 
 pub corners_iff :
     (image : List ℕ) (ts : Tables) →
-    (first_bad (corners_judged image ts) ≡ found.None)
+    (first_bad (corners_judged image ts) ≡ None)
     ↔ ((k : ℕ) → k < ts.edges.count → CornersAbove (edge_at image ts.edges k) (edge_points image ts k))
 unfolding corners_judged
 corners_iff image ts =

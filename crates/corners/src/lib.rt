@@ -6,7 +6,6 @@ ghost use Rattle.ground.specs.Judged.{first_bad};
 ghost use Rattle.layout.specs.Small.{AllSmall};
 ghost use Rattle.corners.specs.Corners.{edge_below, corners_judged};
 
-use ground::Found;
 use layout::Tables;
 
 // Whether a corner of edge k lies below 0.
@@ -27,18 +26,12 @@ fn corner_below(image: &[u32], ts: Tables, k: usize) -> bool
 }
 
 // Code 6: the first word of the first such edge.
-pub fn bad_corner(image: &[u32], ts: Tables) -> Found
+pub fn bad_corner(image: &[u32], ts: Tables) -> Option<usize>
     requires { AllSmall ts }
     ensures { result ≡ first_bad (corners_judged image.now ts) }
 {
     let edges = ts.edges;
-    let count = edges.count;
-    let mut k: usize = 0;
-    while k < count {
-        if corner_below(image, ts, k) {
-            return Found::At(layout::record_at(edges, k));
-        }
-        k += 1;
-    }
-    Found::None
+    ground::first_found(edges.count, |k| {
+        corner_below(image, ts, k).then_some(layout::record_at(edges, k))
+    })
 }

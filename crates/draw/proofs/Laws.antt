@@ -1,4 +1,5 @@
 -- Drawing: pieces one after the other, what drawing needs still holds after it, each kind of piece, and pieces that touch no row of the window.
+use Rattle.std.specs.Prelude.{Option, Some}
 use native.Mathlib.Omega.{arith}
 use Prim.Native.Nat.{ℕ, ◌+◌, ◌-◌, ◌≤◌, ◌<◌}
 use mir.Val.{Fits}
@@ -16,8 +17,6 @@ use Rattle.cell.specs.declared.Dir.{Dir}
 use Rattle.cell.specs.declared.MarkerKind.TheVariants as kind
 use Rattle.cell.specs.OneCell.{weight_number, horizontal, vertical}
 use Rattle.image.specs.declared.Edge.{Edge}
-use Rattle.flow.specs.declared.Coordinate.{Coordinate}
-use Rattle.flow.specs.declared.Coordinate.TheVariants as coordinate
 use Rattle.flow.specs.declared.Line.{Line}
 use Rattle.lines.specs.Lines.{down_spots, across_spots}
 use Rattle.window.specs.declared.Lent.{Lent}
@@ -328,5 +327,5 @@ same_runs lent v number e (Stroke x y arms) = refl
 same_runs lent v number e (Mark x y dir) = refl
 
 -- the row or column of a corner is small
-pub corner_small : (corner : Coordinate) (n : ℕ) → corner ≡ coordinate.At n → SmallCoordinate corner → n < bound
+pub corner_small : (corner : Option ℕ) (n : ℕ) → corner ≡ Some n → SmallCoordinate corner → n < bound
 corner_small corner n is small = rw is at small

@@ -1,8 +1,7 @@
 -- For the proofs alone: what drawing pieces of an edge leaves of the lent planes, and of the runs that are kept in the scratch.
-use Rattle.std.specs.Prelude.{ℕ, ◌+◌, ◌≤◌, ◌<◌, false, List, [], ◌≡◌}
+use Rattle.std.specs.Prelude.{ℕ, ◌+◌, ◌≤◌, ◌<◌, false, List, [], ◌≡◌, None}
 use Rattle.ground.specs.Each.{each, some}
 use Rattle.image.specs.declared.Edge.{Edge}
-use Rattle.image.specs.declared.EdgeLabel.TheVariants as label
 use Rattle.image.specs.declared.FlowAxis.TheVariants as axis
 use Rattle.image.specs.declared.Path.TheVariants as path
 use Rattle.rows.specs.declared.Window.{Window}
@@ -35,7 +34,7 @@ edge_of pen = record {
   start_marker = false;
   end_marker = false;
   weight = pen.weight;
-  label = label.None;
+  label = None;
   colour = pen.colour;
   label_colour = 0;
 }

@@ -12,7 +12,7 @@ use cell::{Arms, MarkerKind, Weight};
 use flow::Piece;
 use rows::Window;
 use runs::Run;
-use window::{Lent, Paint, Tint};
+use window::{Lent, Tint};
 
 // With what an edge is drawn, and where: no more of an edge than its ink depends on. The window stands first: behind a byte, copies of it would begin at an odd
 // place, and wait for what was stored before.
@@ -37,8 +37,8 @@ fn tint_of(pen: Pen) -> Tint
     ensures { result ≡ stamp_tint pen.colour pen.number }
 {
     Tint {
-        colour: Paint::Set(pen.colour),
-        stamp: Paint::Set(pen.number),
+        colour: Some(pen.colour),
+        stamp: Some(pen.number),
     }
 }
 
@@ -52,12 +52,11 @@ pub fn keep_piece(scratch: &mut [u32], pen: Pen, kept: usize, piece: Piece) -> u
     };
     let window = pen.window;
     if window.has(row) {
-        let weight = pen.weight;
         let run = Run {
             row: row as u32,
             first: first as u32,
             last: last as u32,
-            weight: weight.number(),
+            weight: u32::from(pen.weight),
             number: pen.number,
             colour: pen.colour,
         };

@@ -9,7 +9,6 @@ ghost use Rattle.header.specs.Words.{inside};
 ghost use Rattle.header.specs.InTurn.{or_unless, or_words, words_at};
 ghost use Rattle.edge_rules.specs.Edge.{path_number, weight_number, edge_flags_good, path_good, edge_path, path_rules, label_start_good, label_count_good, label_rules, edge_rules};
 
-use ground::Found;
 use header::{four_at_most, or_unless};
 use layout::{MAX_COORDINATE, flag, word_inside};
 
@@ -42,7 +41,7 @@ fn edge_flags_good(flags: u32) -> bool
     (path_number(flags) <= layout::PATH_SPLINE) & ((0 < weight) & (flags % layout::EDGE_SPARE == 0))
 }
 
-fn bad_edge_flags(before: Found, image: &[u32], place: usize) -> Found
+fn bad_edge_flags(before: Option<usize>, image: &[u32], place: usize) -> Option<usize>
     requires { place < length image.now }
     ensures { result ≡ or_unless before (edge_flags_good (word image.now place)) place }
 {
@@ -65,38 +64,32 @@ pub struct PathWords {
 fn path_good(points: usize, path: u32, a: u32, b: u32, c: u32) -> PathWords
     ensures { result ≡ path_good points path a b c }
 {
-    if path == layout::PATH_CORNER {
-        return PathWords {
+    match path {
+        layout::PATH_CORNER => PathWords {
             a: a <= MAX_COORDINATE,
             b: b == 0,
             c: c == 0,
-        };
-    }
-    if path == layout::PATH_SIDE_CHANNEL {
-        return PathWords {
+        },
+        layout::PATH_SIDE_CHANNEL => PathWords {
             a: a <= MAX_COORDINATE,
             b: b <= MAX_COORDINATE,
             c: c <= MAX_COORDINATE,
-        };
-    }
-    if path == layout::PATH_MULTI_SEGMENT {
-        return PathWords {
+        },
+        layout::PATH_MULTI_SEGMENT => PathWords {
             a: span_good(a, b, points),
             b: true,
             c: c <= MAX_COORDINATE,
-        };
-    }
-    if path == layout::PATH_ORTHOGONAL {
-        return PathWords {
+        },
+        layout::PATH_ORTHOGONAL => PathWords {
             a: span_good(a, b, points),
             b: true,
             c: c == 0,
-        };
-    }
-    PathWords {
-        a: a == 0,
-        b: b == 0,
-        c: c == 0,
+        },
+        _ => PathWords {
+            a: a == 0,
+            b: b == 0,
+            c: c == 0,
+        },
     }
 }
 
@@ -112,7 +105,7 @@ fn path_at(image: &[u32], at: usize, points: usize) -> PathWords
     path_good(points, path_number(flags), a, b, c)
 }
 
-fn bad_path(before: Found, image: &[u32], at: usize, points: usize) -> Found
+fn bad_path(before: Option<usize>, image: &[u32], at: usize, points: usize) -> Option<usize>
     requires { at + edge_size ≤ length image.now }
     ensures { result ≡ or_words before at edge_a (path_rules points (words_at image.now at)) }
 {
@@ -136,14 +129,10 @@ fn label_start_good(glyphs: usize, flags: u32, start: u32, count: u32) -> bool
 fn label_count_good(flags: u32, count: u32) -> bool
     ensures { result ≡ label_count_good flags count }
 {
-    if flag(flags, layout::LABEL_PRESENT) {
-        true
-    } else {
-        count == 0
-    }
+    flag(flags, layout::LABEL_PRESENT) || count == 0
 }
 
-fn bad_edge_label(before: Found, image: &[u32], at: usize, glyphs: usize) -> Found
+fn bad_edge_label(before: Option<usize>, image: &[u32], at: usize, glyphs: usize) -> Option<usize>
     requires { at + edge_size ≤ length image.now }
     ensures { result ≡ or_words before at edge_label_start (label_rules glyphs (words_at image.now at)) }
 {
@@ -163,11 +152,11 @@ fn bad_edge_label(before: Found, image: &[u32], at: usize, glyphs: usize) -> Fou
 }
 
 // An edge, where so many points and glyphs are held.
-pub fn bad_edge(image: &[u32], at: usize, points: usize, glyphs: usize) -> Found
+pub fn bad_edge(image: &[u32], at: usize, points: usize, glyphs: usize) -> Option<usize>
     requires { at + edge_size ≤ length image.now }
     ensures { result ≡ first_bad (judged_words at 0 (edge_rules points glyphs (words_at image.now at))) }
 {
-    let ends = four_at_most(Found::None, image, at, MAX_COORDINATE);
+    let ends = four_at_most(None, image, at, MAX_COORDINATE);
     let flags = bad_edge_flags(ends, image, at + layout::EDGE_FLAGS);
     let path = bad_path(flags, image, at, points);
     bad_edge_label(path, image, at, glyphs)

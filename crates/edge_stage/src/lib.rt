@@ -32,7 +32,7 @@ fn lay_edge(
     requires { Staged image.now ts v marks.now ranges.now × Layable lent v cells.old colours.old stamps.old scratch.old kept × (k < ts.edges.count) × (ts.edges.count ≤ max_things) }
     ensures { Laid v ranges.now (edge_writes image.now ts k) (runs_of_edge image.now ts k) (laying lent cells.old colours.old stamps.old scratch.old kept) (laying lent cells.new colours.new stamps.new scratch.new result) }
 {
-    let kind = image::element_kind_number(ElementKind::Edge);
+    let kind = u32::from(ElementKind::Edge);
     if stage::is_marked(marks, kind, k) {
         let table = ts.edges;
         let e = image::edge_at(image, table, k);
@@ -40,11 +40,11 @@ fn lay_edge(
         let points = image::points_of(image, ts.points, path);
         let weight = e.weight;
         let pen = Pen {
-            lent: lent,
+            lent,
             window: v,
             number: (k + 1) as u32,
             colour: e.colour,
-            weight: weight,
+            weight,
             dashed: e.reversed,
         };
         return path_draw::draw_edge(
@@ -70,10 +70,11 @@ pub fn lay_edges(
     requires { Staged image.now ts v marks.now ranges.now × Layable lent v cells.old colours.old stamps.old scratch.old 0 × (ts.edges.count ≤ max_things) }
     ensures { Laid v ranges.now (edges image.now ts) (runs image.now ts) (laying lent cells.old colours.old stamps.old scratch.old 0) (laying lent cells.new colours.new stamps.new scratch.new result) }
 {
-    let kind = image::element_kind_number(ElementKind::Edge);
+    let kind = u32::from(ElementKind::Edge);
     let count = ts.edges.count;
     let mut kept: usize = 0;
     let mut k: usize = 0;
+    // the marks say where to go on, and not a range
     while k < count {
         kept = lay_edge(
             image, ts, v, lent, ranges, marks, cells, colours, stamps, scratch, kept, k,

@@ -9,11 +9,12 @@ use lib.Dec.{eqb, ltb}
 use lib.ListN.{length, get_or, set, replicate, length-replicate, get_or-replicate}
 use lib.Seq.{get_or-set_same, get_or-set_other}
 use borrow.Author.Tests.{eqb-true, eq-eqb, lt-ltb, le-ltb}
-use Rattle.ground.specs.declared.Found.{Found}
-use Rattle.ground.specs.declared.Found.TheVariants as found
+use Rattle.std.specs.Prelude.{Option, Some, None}
+use Rattle.std.specs.Option.{option_or}
+use Rattle.std.specs.Bool.{then_some}
 use Rattle.ground.specs.Each.{numbers, some}
 use Rattle.ground.specs.Judged.{first_bad}
-use Rattle.ground.specs.First.{or_else, found_if, first_from}
+use Rattle.ground.specs.First.{first_from}
 use Rattle.ground.proofs.Each.{by_bool}
 use Rattle.ground.proofs.First.{or_assoc, or_none}
 use Rattle.ground.proofs.Order.{by_three}
@@ -46,7 +47,7 @@ module _ (image : List ℕ) (ts : Tables) (kind index k : ℕ) where
   is_named p q = simp (eq-eqb _ _ p, eq-eqb _ _ q)
 
 -- one place more to look at
-first_more : (f : ℕ → Found) (k n : ℕ) → first_from f k (suc n) ≡ or_else (first_from f k n) (f (k + n))
+first_more : (f : ℕ → Option ℕ) (k n : ℕ) → first_from f k (suc n) ≡ option_or (first_from f k n) (f (k + n))
 unfolding first_from
 first_more f k zero = let e : k + 0 ≡ k = omega arith in rw e (or_none (f k))
 first_more f k (suc n) =
@@ -56,19 +57,19 @@ first_more f k (suc n) =
 -- one element more that may name a thing
 lister_more :
     (image : List ℕ) (ts : Tables) (kind index k : ℕ) →
-    lister image ts kind index (k + 1) ≡ or_else (lister image ts kind index k) (found_if (names image ts kind index k) k)
+    lister image ts kind index (k + 1) ≡ option_or (lister image ts kind index k) (then_some (names image ts kind index k) k)
 unfolding lister
 lister_more image ts kind index k =
     let e : 0 + k ≡ k = omega arith in
-    rw (add-one k) (rw e at (first_more (λ j. found_if (names image ts kind index j) j) 0 k))
+    rw (add-one k) (rw e at (first_more (λ j. then_some (names image ts kind index j) j) 0 k))
 
 -- Some element names a thing exactly where it has a listing.
 
-abbrev pub is_found : Found → Bool
-is_found found.None = false
-is_found (found.At k) = true
+abbrev pub is_found : Option ℕ → Bool
+is_found None = false
+is_found (Some k) = true
 
-pub some_found : (test : ℕ → Bool) (k n : ℕ) → some (numbers k n) test ≡ is_found (first_from (λ j. found_if (test j) j) k n)
+pub some_found : (test : ℕ → Bool) (k n : ℕ) → some (numbers k n) test ≡ is_found (first_from (λ j. then_some (test j) j) k n)
 unfolding some numbers first_from
 some_found test k zero = refl
 some_found test k (suc n) = by_bool (test k) (λ t. rw t) (λ t. rw t (some_found test (suc k) n))
@@ -110,7 +111,7 @@ module _ (image : List ℕ) (ts : Tables) (good : ElementsGood image ts) (slots 
   -- its own is this element
   held_same :
       (kind index : ℕ) → element_slot image ts k < length slots →
-      lister image ts (kind_of image ts k) (index_of image ts k) k ≡ found.None →
+      lister image ts (kind_of image ts k) (index_of image ts k) k ≡ None →
       kind_of image ts k ≡ kind →
       index_of image ts k ≡ index →
       slot_listing (get_or (set slots (element_slot image ts k) (k + 1)) (slot_of kind index) 0) ≡ lister image ts kind index (k + 1)
@@ -134,28 +135,28 @@ module _ (image : List ℕ) (ts : Tables) (good : ElementsGood image ts) (slots 
   held_again h size free kind index p q =
       let pk = good.kind k h in
       let qk = good.index k h in
-      let none : found.None ≡ lister image ts (kind_of image ts k) (index_of image ts k) k = rw free at (own_slot h) in
+      let none : None ≡ lister image ts (kind_of image ts k) (index_of image ts k) k = rw free at (own_slot h) in
       by_three (slot_of kind index) (element_slot image ts k)
       (λ o. held_other kind index p q (λ e. omega arith))
       (λ o. held_other kind index p q (λ e. omega arith))
       (λ o. held_same kind index (omega arith) (sym none) (omega arith) (omega arith))
 
-never : {P : Type 0} (place : ℕ) → found.At place ≡ found.None → P
+never : {P : Type 0} (place : ℕ) → Some place ≡ None → P
 never place n = let z : ◌≡◌ {A = ℕ} 0 1 = cc in absurd (omega arith)
 
 -- what the walk from element k on finds, the slots being these
-pub record Walk (image : List ℕ) (ts : Tables) (slots : List ℕ) (k : ℕ) (first : Found) : Type 0 where
+pub record Walk (image : List ℕ) (ts : Tables) (slots : List ℕ) (k : ℕ) (first : Option ℕ) : Type 0 where
   pub left : found_from ts.elements (λ j. not (listed_before image ts j)) k ≡ first
   pub held : Held image ts slots k
   pub size : length slots ≡ slot_count
 
-module _ (image : List ℕ) (ts : Tables) (good : ElementsGood image ts) (slots : List ℕ) (k slot word : ℕ) (first : Found)
+module _ (image : List ℕ) (ts : Tables) (good : ElementsGood image ts) (slots : List ℕ) (k slot word : ℕ) (first : Option ℕ)
     (h : k < ts.elements.count) (w : Walk image ts slots k first) (e : slot ≡ element_slot image ts k) (g : word ≡ get_or slots slot 0) where
   at_slot : slot_listing word ≡ lister image ts (kind_of image ts k) (index_of image ts k) k
   at_slot = rw (g, e) (own_slot image ts good slots k w.held h)
 
   -- the turn at an element whose thing is listed already
-  pub walk_hit : (after : List ℕ) (place : ℕ) → first ≡ first_bad (twice_judged image ts) → (word ≡ 0 → ⊥) → place ≡ record_at ts.elements k → Listed image ts after (found.At place)
+  pub walk_hit : (after : List ℕ) (place : ℕ) → first ≡ first_bad (twice_judged image ts) → (word ≡ 0 → ⊥) → place ≡ record_at ts.elements k → Listed image ts after (Some place)
   walk_hit after place t z p = record {
     twice =
         records_hit ts.elements (λ j. not (listed_before image ts j)) k first h w.left place p (slot_taken image ts k word at_slot z) ∙ t;
@@ -180,7 +181,7 @@ walk_whole image ts slots e = record {
 }
 
 -- no element is left
-pub walk_done : (image : List ℕ) (ts : Tables) (slots : List ℕ) (k : ℕ) → k ≤ ts.elements.count → ts.elements.count ≤ k → Walk image ts slots k (first_bad (twice_judged image ts)) → Listed image ts slots found.None
+pub walk_done : (image : List ℕ) (ts : Tables) (slots : List ℕ) (k : ℕ) → k ≤ ts.elements.count → ts.elements.count ≤ k → Walk image ts slots k (first_bad (twice_judged image ts)) → Listed image ts slots None
 walk_done image ts slots k h l w =
     let e : k ≡ ts.elements.count = omega arith in
     record {
@@ -202,20 +203,3 @@ module _ (image : List ℕ) (ts : Tables) (k first last : ℕ) (e : first ≡ fi
       let later : 0 < k = omega arith in
       let kept : first_row image ts k ≤ last_row image ts k = rw (e, f) at p in
       rw (e, g) (simp (le-ltb _ _ kept, lt-ltb _ _ later))
-
--- Code 8, turn by turn.
-
-abbrev pub in_order : List ℕ → Tables → ℕ → Bool
-in_order image ts k = not (rows_broken image ts k)
-
-module _ (image : List ℕ) (ts : Tables) (k : ℕ) (first : Found) where
-  module _ (broken : Bool) (h : k < ts.elements.count) (i : found_from ts.elements (in_order image ts) k ≡ first)
-      (e : broken ≡ rows_broken image ts k) where
-    pub order_kept : broken ≡ false → found_from ts.elements (in_order image ts) (k + 1) ≡ first
-    order_kept z = records_again ts.elements (in_order image ts) k first h i (rw (← e, z))
-
-    pub order_broken : (place : ℕ) → place ≡ record_at ts.elements k → broken ≡ true → found.At place ≡ first
-    order_broken place p z = records_hit ts.elements (in_order image ts) k first h i place p (rw (← e, z))
-
-  pub order_done : ts.elements.count ≤ k → found_from ts.elements (in_order image ts) k ≡ first → found.None ≡ first
-  order_done h i = records_done ts.elements (in_order image ts) k first h i

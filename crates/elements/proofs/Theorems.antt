@@ -7,8 +7,8 @@ use mathlib.Core.Logic.{◌↔◌}
 use mathlib.Core.Path.{◌≡◌, refl, sym}
 use lib.Dec.{ltb}
 use borrow.Author.Tests.{ltb-false, lt-ltb, le-ltb}
-use Rattle.ground.specs.declared.Found.TheVariants as found
-use Rattle.ground.specs.First.{found_if}
+use Rattle.std.specs.Prelude.{Some, None}
+use Rattle.std.specs.Bool.{then_some}
 use Rattle.ground.specs.Judged.{first_bad}
 use Rattle.ground.proofs.Each.{by_bool, or_left, or_right, or_neither, number_some, some_number}
 use Rattle.ground.proofs.First.{first_none, first_at, found_none}
@@ -16,10 +16,10 @@ use Rattle.ground.proofs.Order.{by_order}
 use Rattle.layout.specs.declared.Tables.{Tables}
 use Rattle.elements.specs.Elements.{kind_of, index_of, first_row, last_row, names, lister, listing, listed_before, twice_judged, rows_broken, order_judged, Once, Ordered}
 use Rattle.elements.proofs.Records.{records_good_iff}
-use Rattle.elements.proofs.Laws.{named, is_named, in_order}
+use Rattle.elements.proofs.Laws.{named, is_named}
 
 -- a test that finds a place holds, and the place is its own
-if_at : (test : Bool) (place at : ℕ) → found_if test place ≡ found.At at → (test ≡ true) × (place ≡ at)
+if_at : (test : Bool) (place at : ℕ) → then_some test place ≡ Some at → (test ≡ true) × (place ≡ at)
 if_at true place at h = (refl, cc)
 if_at false place at h = let z : ◌≡◌ {A = ℕ} 0 1 = cc in absurd (omega arith)
 
@@ -33,16 +33,16 @@ not_iff false = (λ e. refl, λ e. refl)
 
 module _ (image : List ℕ) (ts : Tables) (kind index : ℕ) where
   -- The listing of a thing is an element of the list, and names the thing.
-  pub listing_at : (k : ℕ) → listing image ts kind index ≡ found.At k → (k < ts.elements.count) × (kind_of image ts k ≡ kind) × (index_of image ts k ≡ index)
+  pub listing_at : (k : ℕ) → listing image ts kind index ≡ Some k → (k < ts.elements.count) × (kind_of image ts k ≡ kind) × (index_of image ts k ≡ index)
   unfolding lister
   listing_at k h =
-      let first = first_at (λ j. found_if (names image ts kind index j) j) 0 ts.elements.count k h in
+      let first = first_at (λ j. then_some (names image ts kind index j) j) 0 ts.elements.count k h in
       let hit = if_at (names image ts kind index first.0) first.0 k first.3 in
       let thing = rw hit.1 at (named image ts kind index first.0 hit.0) in
       (omega (arith, first.2, hit.1), thing.0, thing.1)
 
   -- Where a thing has no listing no element of the list names it.
-  pub listing_none : listing image ts kind index ≡ found.None → (k : ℕ) → k < ts.elements.count → kind_of image ts k ≡ kind → index_of image ts k ≡ index → ⊥
+  pub listing_none : listing image ts kind index ≡ None → (k : ℕ) → k < ts.elements.count → kind_of image ts k ≡ kind → index_of image ts k ≡ index → ⊥
   unfolding lister
   listing_none h k p e f =
       clash (is_named image ts kind index k e f)
@@ -65,7 +65,7 @@ module _ (image : List ℕ) (ts : Tables) where
       (λ t. t)
 
   -- Code 7 finds nothing exactly when no two elements name the same thing.
-  pub twice_iff : (first_bad (twice_judged image ts) ≡ found.None) ↔ Once image ts
+  pub twice_iff : (first_bad (twice_judged image ts) ≡ None) ↔ Once image ts
   unfolding twice_judged
   twice_iff =
       let each = records_good_iff ts.elements (λ k. not (listed_before image ts k)) in (
@@ -87,19 +87,19 @@ module _ (image : List ℕ) (ts : Tables) where
   -- Code 8 finds nothing exactly when the elements are in order.
 
   kept :
-      first_bad (order_judged image ts) ≡ found.None → (k : ℕ) → k < ts.elements.count →
+      first_bad (order_judged image ts) ≡ None → (k : ℕ) → k < ts.elements.count →
       (first_row image ts k ≤ last_row image ts k) × (0 < k → first_row image ts (k - 1) ≤ first_row image ts k)
   unfolding order_judged
-  kept h k p = (rows_iff k).0 ((not_iff (rows_broken image ts k)).0 ((records_good_iff ts.elements (in_order image ts)).0 h k p))
+  kept h k p = (rows_iff k).0 ((not_iff (rows_broken image ts k)).0 ((records_good_iff ts.elements (λ k. not (rows_broken image ts k))).0 h k p))
 
-  pub order_iff : (first_bad (order_judged image ts) ≡ found.None) ↔ Ordered image ts
+  pub order_iff : (first_bad (order_judged image ts) ≡ None) ↔ Ordered image ts
   unfolding order_judged
   order_iff = (
     (λ h. (
       λ k p. (kept h k p).0,
       λ k p. let e : suc k - 1 ≡ k = omega arith in rw e at ((kept h (suc k) p).1 (omega arith)),
     )),
-    (λ o. (records_good_iff ts.elements (in_order image ts)).1
+    (λ o. (records_good_iff ts.elements (λ k. not (rows_broken image ts k))).1
         (λ k p. rw ((rows_iff k).1 (
           o.0 k p,
           λ q. let e : suc (k - 1) ≡ k = omega arith in rw e at (o.1 (k - 1) (omega arith)),

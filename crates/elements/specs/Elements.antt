@@ -1,9 +1,9 @@
 -- The list of elements by itself: codes 7 and 8, and each thing's listing.
-use Rattle.std.specs.Prelude.{ℕ, suc, ◌-◌, ◌≤◌, ◌<◌, Bool, not, ◌&&◌, ◌||◌, List, ◌≡◌, eqb, ltb}
+use Rattle.std.specs.Prelude.{ℕ, suc, ◌-◌, ◌≤◌, ◌<◌, Bool, not, ◌&&◌, ◌||◌, List, ◌≡◌, eqb, ltb, Option}
+use Rattle.std.specs.Bool.{then_some}
 use Rattle.ground.specs.Each.{numbers, some}
-use Rattle.ground.specs.First.{found_if, first_from}
+use Rattle.ground.specs.First.{first_from}
 use Rattle.ground.specs.Judged.{Judged}
-use Rattle.ground.specs.declared.Found.{Found}
 use Rattle.layout.specs.declared.Tables.{Tables}
 use Rattle.layout.specs.Layout.{element_kind, element_index, element_first_row, element_last_row}
 use Rattle.layout.specs.Tables.{field}
@@ -45,11 +45,11 @@ unfoldable pub order_judged : List ℕ → Tables → List Judged
 order_judged image ts = judged_records ts.elements (λ k. not (rows_broken image ts k))
 
 -- the first, of the first so many elements, that names a thing
-unfoldable pub lister : List ℕ → Tables → ℕ → ℕ → ℕ → Found
-lister image ts kind index count = first_from (λ k. found_if (names image ts kind index k) k) 0 count
+unfoldable pub lister : List ℕ → Tables → ℕ → ℕ → ℕ → Option ℕ
+lister image ts kind index count = first_from (λ k. then_some (names image ts kind index k) k) 0 count
 
 -- the listing of a thing
-abbrev pub listing : List ℕ → Tables → ℕ → ℕ → Found
+abbrev pub listing : List ℕ → Tables → ℕ → ℕ → Option ℕ
 listing image ts kind index = lister image ts kind index ts.elements.count
 
 -- What an image keeps that neither refuses.

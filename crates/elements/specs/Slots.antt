@@ -1,9 +1,7 @@
 -- For the proofs alone: how the code finds each thing's listing in one walk. A word for each thing, `maxThings` of each kind, holds the number of the
 -- element which lists it and 1, or 0.
-use Rattle.std.specs.Prelude.{ℕ, zero, suc, ◌+◌, ◌*◌, ◌<◌, ◌≡◌, List, get_or}
+use Rattle.std.specs.Prelude.{ℕ, zero, suc, ◌+◌, ◌*◌, ◌<◌, ◌≡◌, List, get_or, Option, Some, None}
 use Rattle.ground.specs.Judged.{first_bad}
-use Rattle.ground.specs.declared.Found.{Found}
-use Rattle.ground.specs.declared.Found.TheVariants as found
 use Rattle.layout.specs.declared.Tables.{Tables}
 use Rattle.layout.specs.Layout.{element_kinds, max_things}
 use Rattle.elements.specs.Elements.{kind_of, index_of, lister, twice_judged}
@@ -18,9 +16,9 @@ abbrev pub element_slot : List ℕ → Tables → ℕ → ℕ
 element_slot image ts k = slot_of (kind_of image ts k) (index_of image ts k)
 
 -- what a slot's word says
-abbrev pub slot_listing : ℕ → Found
-slot_listing zero = found.None
-slot_listing (suc k) = found.At k
+abbrev pub slot_listing : ℕ → Option ℕ
+slot_listing zero = None
+slot_listing (suc k) = Some k
 
 -- What codes 2 and 4 say of the elements: each names a thing of one of three kinds, each of which has only so many.
 pub record ElementsGood (image : List ℕ) (ts : Tables) : Type 0 where
@@ -34,6 +32,6 @@ Held image ts slots count =
     slot_listing (get_or slots (slot_of kind index) 0) ≡ lister image ts kind index count
 
 -- what the walk finds, and leaves in the slots where it finds nothing
-pub record Listed (image : List ℕ) (ts : Tables) (slots : List ℕ) (first : Found) : Type 0 where
+pub record Listed (image : List ℕ) (ts : Tables) (slots : List ℕ) (first : Option ℕ) : Type 0 where
   pub twice : first ≡ first_bad (twice_judged image ts)
-  pub held : first ≡ found.None → Held image ts slots ts.elements.count
+  pub held : first ≡ None → Held image ts slots ts.elements.count

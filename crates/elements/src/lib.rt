@@ -9,7 +9,6 @@ ghost use Rattle.layout.specs.Small.{AllSmall};
 ghost use Rattle.elements.specs.Elements.{first_row, last_row, rows_broken, order_judged};
 ghost use Rattle.elements.specs.Slots.{slot_count, slot_of, element_slot, ElementsGood, Listed};
 
-use ground::Found;
 use layout::{
     ELEMENT_FIRST_ROW, ELEMENT_INDEX, ELEMENT_KIND, ELEMENT_LAST_ROW, Tables, field, field_inside,
 };
@@ -54,23 +53,20 @@ fn set_slot(slots: &mut [u32], slot: usize, value: u32)
 }
 
 // Code 7, and each thing's listing: one walk over the elements, with slots that are all 0.
-pub fn list_elements(image: &[u32], ts: Tables, slots: &mut [u32]) -> Found
+pub fn list_elements(image: &[u32], ts: Tables, slots: &mut [u32]) -> Option<usize>
     requires inside { Inside image.now element_size ts.elements × (ts.elements.count ≤ max_elements) × ElementsGood image.now ts }
     requires slots_value { slots.old ≡ replicate slot_count 0 }
     ensures { Listed image.now ts slots.new result }
 {
     let elements = ts.elements;
-    let count = elements.count;
-    let mut k: usize = 0;
-    while k < count {
+    for k in 0..elements.count {
         let slot = element_slot(image, ts, k);
         if slot_word(slots, slot) != 0 {
-            return Found::At(layout::record_at(elements, k));
+            return Some(layout::record_at(elements, k));
         }
         set_slot(slots, slot, (k + 1) as u32);
-        k += 1;
     }
-    Found::None
+    None
 }
 
 pub fn first_row(image: &[u32], ts: Tables, k: usize) -> u32
@@ -106,18 +102,12 @@ fn rows_broken(image: &[u32], ts: Tables, k: usize) -> bool
 }
 
 // Code 8.
-pub fn bad_order(image: &[u32], ts: Tables) -> Found
+pub fn bad_order(image: &[u32], ts: Tables) -> Option<usize>
     requires { Inside image.now element_size ts.elements }
     ensures { result ≡ first_bad (order_judged image.now ts) }
 {
     let elements = ts.elements;
-    let count = elements.count;
-    let mut k: usize = 0;
-    while k < count {
-        if rows_broken(image, ts, k) {
-            return Found::At(layout::record_at(elements, k));
-        }
-        k += 1;
-    }
-    Found::None
+    ground::first_found(elements.count, |k| {
+        rows_broken(image, ts, k).then_some(layout::record_at(elements, k))
+    })
 }

@@ -3,7 +3,7 @@ use Prim.Native.Nat.{ℕ, ◌<◌}
 use mathlib.Core.List.{List, ◌++◌}
 use mathlib.Core.Logic.{◌↔◌}
 use mathlib.Core.Path.{◌≡◌}
-use Rattle.ground.specs.declared.Found.TheVariants as found
+use Rattle.std.specs.Prelude.{None}
 use Rattle.ground.specs.Judged.{first_bad}
 use Rattle.layout.specs.declared.RecordKind.{RecordKind}
 use Rattle.layout.specs.declared.RecordKind.TheVariants as kind
@@ -18,7 +18,7 @@ use Rattle.fields.specs.Good.{RecordsGood}
 use Rattle.fields.proofs.Kept.{table_kept, kept_table, none_all, all_none}
 
 -- nothing is found in the table of each kind
-in_all : (image : List ℕ) (ts : Tables) → first_bad (records_judged image ts) ≡ found.None → (kind : RecordKind) → first_bad (kind_judged image ts kind) ≡ found.None
+in_all : (image : List ℕ) (ts : Tables) → first_bad (records_judged image ts) ≡ None → (kind : RecordKind) → first_bad (kind_judged image ts kind) ≡ None
 unfolding records_judged
 in_all image ts h kind.Node = (none_all (kind_judged image ts) _ h).0
 in_all image ts h kind.Edge = (none_all (kind_judged image ts) _ h).1.0
@@ -55,12 +55,12 @@ good_kinds image ts g = record {
   ranges = g kind.Range;
 }
 
-none_in : (image : List ℕ) (ts : Tables) → RecordsGood image ts → (kind : RecordKind) → first_bad (kind_judged image ts kind) ≡ found.None
+none_in : (image : List ℕ) (ts : Tables) → RecordsGood image ts → (kind : RecordKind) → first_bad (kind_judged image ts kind) ≡ None
 none_in image ts g kind =
     kept_table image (table_of kind ts) (record_rules kind ts) (λ k p. (record_kept kind ts _).1 (kind_good image ts g kind k p))
 
 -- No word of a record is refused exactly when every record is good.
-pub records_iff : (image : List ℕ) (ts : Tables) → (first_bad (records_judged image ts) ≡ found.None) ↔ RecordsGood image ts
+pub records_iff : (image : List ℕ) (ts : Tables) → (first_bad (records_judged image ts) ≡ None) ↔ RecordsGood image ts
 unfolding records_judged
 records_iff image ts = (
   λ h. good_kinds image ts

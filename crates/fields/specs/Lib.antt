@@ -1,4 +1,3 @@
 -- What document 01 says of all records of an image: code 4.
 pub mod Tables
 pub mod Good
-pub mod Left

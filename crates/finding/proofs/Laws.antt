@@ -1,29 +1,27 @@
 -- Laws over plain values, which the functions' proofs cite: the parts of an answer put together, and the search for a thing's listing.
-use Prim.Native.Nat.{ℕ, ◌+◌, ◌-◌, ◌*◌, ◌≤◌, ◌<◌}
-use mathlib.Core.Bool.{Bool, true, false, ◌&&◌}
+use Prim.Native.Nat.{ℕ, ◌+◌, ◌-◌, ◌*◌}
+use mathlib.Core.Bool.{◌&&◌}
 use mathlib.Core.List.{List}
-use mathlib.Core.Path.{◌≡◌, sym, ◌∙◌}
+use mathlib.Core.Path.{◌≡◌}
 use lib.Dec.{leb, ltb}
-use Rattle.ground.specs.First.{or_else}
-use Rattle.ground.specs.declared.Found.{Found}
-use Rattle.ground.specs.declared.Found.TheVariants as found
+use Rattle.std.specs.Prelude.{Option}
+use Rattle.std.specs.Option.{option_or}
 use Rattle.glyph.specs.Ranges.{not_above}
 use Rattle.layout.specs.declared.Tables.{Tables}
 use Rattle.layout.specs.Layout.{range_size, range_last}
 use Rattle.layout.specs.Tables.{word, tables_of}
-use Rattle.elements.specs.Elements.{first_row, last_row, names, lister, listing}
+use Rattle.elements.specs.Elements.{first_row, last_row}
 use Rattle.finding.specs.declared.OrderFaults.{OrderFaults}
 use Rattle.finding.specs.declared.RangeFaults.{RangeFaults}
 use Rattle.finding.specs.Ranges.{fixed_at, fixed_in, range_faults}
 use Rattle.finding.specs.Order.{order_faults}
-use Rattle.finding.proofs.Search.{found_to, search_whole, search_hit, search_on, search_done}
 
 -- the first of the four characters
 pub one_of_four :
-    (first last : ℕ) (a b c d ab cd r : Found) →
-    r ≡ or_else ab cd →
-    ab ≡ or_else a b →
-    cd ≡ or_else c d →
+    (first last : ℕ) (a b c d ab cd r : Option ℕ) →
+    r ≡ option_or ab cd →
+    ab ≡ option_or a b →
+    cd ≡ option_or c d →
     a ≡ fixed_at first last 0x20 →
     b ≡ fixed_at first last 0x22 →
     c ≡ fixed_at first last 0x5B →
@@ -34,7 +32,7 @@ one_of_four first last a b c d ab cd r e f g p q s t = rw (e, f, g, p, q, s, t)
 
 -- a range and the one before it
 pub range_put :
-    (ranges : List ℕ) (k first last before first_before last_before : ℕ) (fixed : Found) →
+    (ranges : List ℕ) (k first last before first_before last_before : ℕ) (fixed : Option ℕ) →
     before ≡ k - 1 →
     first ≡ word ranges (range_size * k) →
     last ≡ word ranges (range_size * k + range_last) →
@@ -65,24 +63,3 @@ pub order_put :
     (order_faults image (tables_of image) k)
 unfolding order_faults
 order_put image ts k first last previous before t f l p b = rw (← t, b, f, l, p)
-
--- The search for a thing's listing, turn by turn.
-
-module _ (image : List ℕ) (ts : Tables) (kind index : ℕ) where
-  abbrev pub Listing : ℕ → Type 0
-  Listing k = found_to (names image ts kind index) ts.elements.count k ≡ listing image ts kind index
-
-  pub listing_whole : Listing 0
-  unfolding lister
-  listing_whole = search_whole (names image ts kind index) ts.elements.count
-
-  module _ (k : ℕ) (left : Listing k) where
-    module _ (named : Bool) (h : k < ts.elements.count) (e : named ≡ names image ts kind index k) where
-      pub listing_hit : ts ≡ tables_of image → named ≡ true → found.At k ≡ listing image (tables_of image) kind index
-      listing_hit t n = rw (← t) (search_hit (names image ts kind index) ts.elements.count _ k left h (sym e ∙ n))
-
-      pub listing_on : named ≡ false → Listing (k + 1)
-      listing_on n = search_on (names image ts kind index) ts.elements.count _ k left h (sym e ∙ n)
-
-    pub listing_done : ts ≡ tables_of image → ts.elements.count ≤ k → found.None ≡ listing image (tables_of image) kind index
-    listing_done t h = rw (← t) (search_done (names image ts kind index) ts.elements.count _ k left h)

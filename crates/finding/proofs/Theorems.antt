@@ -3,22 +3,22 @@ use Prim.Native.Nat.{ℕ}
 use mathlib.Core.Bool.{Bool, true, false, ◌||◌}
 use mathlib.Core.List.{List}
 use mathlib.Core.Path.{◌≡◌, refl}
-use Rattle.ground.specs.First.{or_else, found_if}
-use Rattle.ground.specs.declared.Found.{Found}
-use Rattle.ground.specs.declared.Found.TheVariants as found
+use Rattle.std.specs.Prelude.{Option, Some, None}
+use Rattle.std.specs.Option.{option_or}
+use Rattle.std.specs.Bool.{then_some}
 use Rattle.glyph.specs.Width.{first_of, last_of}
-use Rattle.glyph.specs.Ranges.{holds, holds_fixed, not_above, range_broken}
+use Rattle.glyph.specs.Ranges.{holds, holds_fixed, range_broken}
 use Rattle.layout.specs.declared.Tables.{Tables}
 use Rattle.elements.specs.Elements.{rows_broken}
 use Rattle.elements.proofs.Laws.{is_found}
 use Rattle.finding.specs.Ranges.{fixed_in, range_faults}
 use Rattle.finding.specs.Order.{order_faults}
 
-found_either : (a b : Found) → is_found (or_else a b) ≡ is_found a || is_found b
-found_either found.None b = refl
-found_either (found.At n) b = refl
+found_either : (a b : Option ℕ) → is_found (option_or a b) ≡ is_found a || is_found b
+found_either None b = refl
+found_either (Some n) b = refl
 
-found_test : (test : Bool) (n : ℕ) → is_found (found_if test n) ≡ test
+found_test : (test : Bool) (n : ℕ) → is_found (then_some test n) ≡ test
 found_test true n = refl
 found_test false n = refl
 

@@ -1,20 +1,19 @@
 -- Code 5, rule by rule: "a width range has first > last, first not above the last before it, or holds 0020, 0022, 005B or 005D".
-use Rattle.std.specs.Prelude.{ℕ, ◌-◌, List, ltb}
-use Rattle.ground.specs.First.{or_else, found_if}
-use Rattle.ground.specs.declared.Found.{Found}
-use Rattle.ground.specs.declared.Found.TheVariants as found
+use Rattle.std.specs.Prelude.{ℕ, ◌-◌, List, ltb, Option}
+use Rattle.std.specs.Option.{option_or}
+use Rattle.std.specs.Bool.{then_some}
 use Rattle.glyph.specs.Width.{first_of, last_of}
 use Rattle.glyph.specs.Ranges.{holds, not_above}
 use Rattle.finding.specs.declared.RangeFaults.{RangeFaults}
 
 -- a value, where the range from first to last holds it
-abbrev pub fixed_at : ℕ → ℕ → ℕ → Found
-fixed_at first last value = found_if (holds first last value) value
+abbrev pub fixed_at : ℕ → ℕ → ℕ → Option ℕ
+fixed_at first last value = then_some (holds first last value) value
 
 -- the first of the four characters that it holds
-unfoldable pub fixed_in : ℕ → ℕ → Found
+unfoldable pub fixed_in : ℕ → ℕ → Option ℕ
 fixed_in first last =
-    or_else (or_else (fixed_at first last 0x20) (fixed_at first last 0x22)) (or_else (fixed_at first last 0x5B) (fixed_at first last 0x5D))
+    option_or (option_or (fixed_at first last 0x20) (fixed_at first last 0x22)) (option_or (fixed_at first last 0x5B) (fixed_at first last 0x5D))
 
 unfoldable pub range_faults : List ℕ → ℕ → RangeFaults
 range_faults ranges k = record {

@@ -13,7 +13,6 @@ ghost use Rattle.things.specs.Things.{ranges_of};
 ghost use Rattle.finding.specs.Ranges.{fixed_at, fixed_in, range_faults};
 ghost use Rattle.finding.specs.Order.{order_faults};
 
-use ground::{Found, or_else};
 use image::{Element, ElementKind};
 use layout::{FieldName, RANGE_LAST, RANGE_SIZE, RecordKind, Tables, word};
 use rows::Rows;
@@ -50,27 +49,24 @@ pub struct RangeFaults {
     // "first not above the last before it"
     pub not_above: bool,
     // the first of the four fixed characters that it holds
-    pub fixed: Found,
+    pub fixed: Option<usize>,
 }
 
 // A value, where the range from first to last holds it.
-fn fixed_at(first: u32, last: u32, value: u32) -> Found
+fn fixed_at(first: u32, last: u32, value: u32) -> Option<usize>
     ensures { result ≡ fixed_at first last value }
 {
-    if (first <= value) & (value <= last) {
-        Found::At(ground::number(value))
-    } else {
-        Found::None
-    }
+    let holds = (first <= value) & (value <= last);
+    holds.then_some(ground::number(value))
 }
 
 // "holds 0020, 0022, 005B or 005D": the first of them.
-fn fixed_in(first: u32, last: u32) -> Found
+fn fixed_in(first: u32, last: u32) -> Option<usize>
     ensures { result ≡ fixed_in first last }
 {
-    let space_or_quote = or_else(fixed_at(first, last, 0x20), fixed_at(first, last, 0x22));
-    let bracket = or_else(fixed_at(first, last, 0x5B), fixed_at(first, last, 0x5D));
-    or_else(space_or_quote, bracket)
+    let space_or_quote = fixed_at(first, last, 0x20).or(fixed_at(first, last, 0x22));
+    let bracket = fixed_at(first, last, 0x5B).or(fixed_at(first, last, 0x5D));
+    space_or_quote.or(bracket)
 }
 
 // The faults of range k among the words of all ranges.
@@ -149,24 +145,17 @@ fn names_thing(image: &[u32], ts: Tables, kind: u32, index: usize, k: usize) -> 
 }
 
 // The first element that lists a thing.
-pub fn lister_of(image: &[u32], kind: u32, index: usize) -> Found
+pub fn lister_of(image: &[u32], kind: u32, index: usize) -> Option<usize>
     ensures { result ≡ listing image.now (tables_of image.now) kind index }
 {
     let ts = layout::tables_of(image);
-    let elements = ts.elements;
-    let count = elements.count;
-    let mut k: usize = 0;
-    while k < count {
-        if names_thing(image, ts, kind, index, k) {
-            return Found::At(k);
-        }
-        k += 1;
-    }
-    Found::None
+    ground::first_found(ts.elements.count, |k| {
+        names_thing(image, ts, kind, index, k).then_some(k)
+    })
 }
 
 // The rows of the sheet that a thing touches, from the first to the last.
-pub fn touched(image: &[u32], kind: ElementKind, k: usize) -> Rows
+pub fn touched(image: &[u32], kind: ElementKind, k: usize) -> Option<Rows>
     requires { k < 4294967296 }
     ensures { Touched kind image.now (tables_of image.now) k result }
 {

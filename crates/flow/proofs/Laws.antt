@@ -1,4 +1,5 @@
 -- What the code makes of its parts, over plain values: the arms of a corner, the arrows on a line, and the bend of an edge or of a leg.
+use Rattle.std.specs.Prelude.{Option}
 use Prim.Native.Nat.{ℕ}
 use mathlib.Core.Path.{◌≡◌}
 use mathlib.Core.Bool.{Bool, true, false, not, ◌&&◌}
@@ -6,7 +7,6 @@ use lib.Dec.{ltb}
 use Rattle.cell.specs.declared.Weight.{Weight}
 use Rattle.cell.specs.declared.Dir.{Dir}
 use Rattle.image.specs.declared.Edge.{Edge}
-use Rattle.flow.specs.declared.Coordinate.{Coordinate}
 use Rattle.flow.specs.declared.Head.{Head}
 use Rattle.flow.specs.declared.Line.{Line}
 use Rattle.flow.specs.declared.Leg.{Leg}
@@ -23,7 +23,7 @@ corner_made w down right u d l r p q s t = rw (p, q, s, t)
 
 -- The arrows one cell from the start and one cell before the end.
 
-module _ (wanted s : Bool) (place : ℕ) (dir : Dir) (at : Coordinate) (r : Head) (h : r ≡ head_at wanted at dir) where
+module _ (wanted s : Bool) (place : ℕ) (dir : Dir) (at : Option ℕ) (r : Option Head) (h : r ≡ head_at wanted at dir) where
   pub start_made : at ≡ along s place 1 → r ≡ start_head wanted s place dir
   unfolding start_head
   start_made p = rw (← p) h
@@ -82,7 +82,7 @@ leg_bend_made e offset leg bend source target has_trunk starts ends t p s q u = 
 
 -- Parts that are the same make the same arrows and the same line. `way` is a direction by the flow's sign.
 
-module _ (way : Bool → Dir) (wanted wanted' s s' : Bool) (place place' : ℕ) (r : Head) where
+module _ (way : Bool → Dir) (wanted wanted' s s' : Bool) (place place' : ℕ) (r : Option Head) where
   pub start_same :
       r ≡ start_head wanted s place (way s) →
       wanted ≡ wanted' →
@@ -100,7 +100,7 @@ module _ (way : Bool → Dir) (wanted wanted' s s' : Bool) (place place' : ℕ) 
   end_same h w t p = rw (← w, ← t, ← p) h
 
 pub line_same :
-    (lane lane' from from' to to' : ℕ) (winner winner' other other' : Head) (r : Line) →
+    (lane lane' from from' to to' : ℕ) (winner winner' other other' : Option Head) (r : Line) →
     r ≡ line_of lane from to winner other →
     lane ≡ lane' →
     from ≡ from' →

@@ -1,4 +1,5 @@
 -- What pieces reach: the rows of a line by its ends, what is no run, and the reach of pieces one after the other.
+use Rattle.std.specs.Prelude.{Option, None, Some}
 use native.Mathlib.Omega.{arith}
 use Prim.Native.Nat.{ℕ, ◌+◌, ◌-◌, ◌≤◌, ◌<◌, min, max}
 use mathlib.Core.Path.{◌≡◌, refl, sym, ◌∙◌}
@@ -9,7 +10,6 @@ use borrow.Author.Tests.{lt-ltb, le-ltb, eq-eqb, ne_eqb}
 use Rattle.cell.specs.declared.Arms.{Arms}
 use Rattle.cell.specs.declared.Dir.{Dir}
 use Rattle.rows.specs.declared.Rows.{Rows}
-use Rattle.rows.specs.declared.Rows.TheVariants as rows
 use Rattle.rows.specs.declared.Window.{Window}
 use Rattle.rows.specs.Window.{in_window, join_rows}
 use Rattle.rows.specs.Computed.{window_rows}
@@ -25,12 +25,12 @@ use Rattle.flow.specs.Reach.{row_if, vertical_rows, horizontal_rows, piece_rows,
 -- The rows of a line by how far its ends lie apart: none where no cell lies between them, else its own.
 
 module _ (window : Window) (from to : ℕ) where
-  pub vertical_short : max from to - min from to < 2 → rows.None ≡ vertical_rows window from to
+  pub vertical_short : max from to - min from to < 2 → None ≡ vertical_rows window from to
   unfolding vertical_rows
   vertical_short h = clipped_none window (min from to + 1) (max from to - 1) (omega arith)
 
   pub vertical_long :
-      (low high : ℕ) (r : Rows) →
+      (low high : ℕ) (r : Option Rows) →
       r ≡ window_rows window (low + 1) (high - 1) →
       low ≡ min from to →
       high ≡ max from to →
@@ -38,12 +38,12 @@ module _ (window : Window) (from to : ℕ) where
   unfolding vertical_rows
   vertical_long low high r e p q = rw (← p, ← q) e
 
-  pub horizontal_short : (row : ℕ) → max from to - min from to < 2 → rows.None ≡ horizontal_rows window row from to
+  pub horizontal_short : (row : ℕ) → max from to - min from to < 2 → None ≡ horizontal_rows window row from to
   unfolding horizontal_rows
   horizontal_short row h = rw (le-ltb (min from to + 1) (max from to) (omega arith))
 
   pub horizontal_long :
-      (row : ℕ) (r : Rows) → 2 ≤ max from to - min from to → r ≡ window_rows window row row → r ≡ horizontal_rows window row from to
+      (row : ℕ) (r : Option Rows) → 2 ≤ max from to - min from to → r ≡ window_rows window row row → r ≡ horizontal_rows window row from to
   unfolding horizontal_rows
   horizontal_long row r h e = rw (lt-ltb (min from to + 1) (max from to) (omega arith)) e
 
@@ -68,11 +68,11 @@ no_run window (Stroke x y arms) k = refl
 no_run window (Mark x y dir) k = refl
 
 -- Rows joined with themselves are the same.
-pub join_same : (r : Rows) → join_rows r r ≡ r
-join_same rows.None = refl
-join_same (rows.From a b) =
-    let p : min a a ≡ a = omega arith in
-    let q : max b b ≡ b = omega arith in
+pub join_same : (r : Option Rows) → join_rows r r ≡ r
+join_same None = refl
+join_same (Some r) =
+    let p : min r.first r.first ≡ r.first = omega arith in
+    let q : max r.last r.last ≡ r.last = omega arith in
     rw (p, q)
 
 -- Of three together it does not matter which two are joined first; and no reach adds nothing.
@@ -106,7 +106,7 @@ reach_onto_lem window reach (p ∷ rest) =
 
 -- A piece that is no run adds its rows.
 pub with_piece_rows :
-    (window : Window) (reach : Reach) (p : Piece) (r : Rows) →
+    (window : Window) (reach : Reach) (p : Piece) (r : Option Rows) →
     piece_rows window p ≡ r →
     piece_runs_in window p ≡ 0 →
     join_reach reach (piece_reach window p) ≡ with_rows reach r
@@ -128,21 +128,21 @@ with_horizontal window reach l = with_piece_rows window reach (Horizontal l) _ r
 -- a piece that is there only where a test holds, and one that is there only where it does not;
 
 pub with_piece_if :
-    (window : Window) (reach : Reach) (test : Bool) (p : Piece) (r : Rows) →
+    (window : Window) (reach : Reach) (test : Bool) (p : Piece) (r : Option Rows) →
     piece_rows window p ≡ r →
     piece_runs_in window p ≡ 0 →
-    join_reach reach (piece_reach window (cond test p Nothing)) ≡ with_rows reach (cond test r rows.None)
+    join_reach reach (piece_reach window (cond test p Nothing)) ≡ with_rows reach (cond test r None)
 unfolding piece_rows piece_runs_in
 with_piece_if window reach true p r h n = with_piece_rows window reach p r h n
-with_piece_if window reach false p r h n = with_piece_rows window reach Nothing rows.None refl refl
+with_piece_if window reach false p r h n = with_piece_rows window reach Nothing None refl refl
 
 pub with_piece_unless :
-    (window : Window) (reach : Reach) (test : Bool) (p : Piece) (r : Rows) →
+    (window : Window) (reach : Reach) (test : Bool) (p : Piece) (r : Option Rows) →
     piece_rows window p ≡ r →
     piece_runs_in window p ≡ 0 →
-    join_reach reach (piece_reach window (cond test Nothing p)) ≡ with_rows reach (cond (not test) r rows.None)
+    join_reach reach (piece_reach window (cond test Nothing p)) ≡ with_rows reach (cond (not test) r None)
 unfolding piece_rows piece_runs_in
-with_piece_unless window reach true p r h n = with_piece_rows window reach Nothing rows.None refl refl
+with_piece_unless window reach true p r h n = with_piece_rows window reach Nothing None refl refl
 with_piece_unless window reach false p r h n = with_piece_rows window reach p r h n
 
 -- and the corners of a crossing, of which the first may be an arrow: none where its ends are equal.
@@ -163,11 +163,11 @@ module _ (window : Window) (reach : Reach) (same : Bool) (x y : ℕ) (arms : Arm
 
 -- Rows that are there only where a test holds: with them, and without.
 
-module _ (reach : Reach) (test : Bool) (more : Rows) where
-  pub with_rows_if : (r : Reach) → r ≡ with_rows reach more → test ≡ true → r ≡ with_rows reach (cond test more rows.None)
+module _ (reach : Reach) (test : Bool) (more : Option Rows) where
+  pub with_rows_if : (r : Reach) → r ≡ with_rows reach more → test ≡ true → r ≡ with_rows reach (cond test more None)
   with_rows_if r p t = rw t p
 
-  pub with_rows_unless : test ≡ false → reach ≡ with_rows reach (cond test more rows.None)
+  pub with_rows_unless : test ≡ false → reach ≡ with_rows reach (cond test more None)
   unfolding with_rows
   with_rows_unless t = rw (t, join_none reach.rows)
 
@@ -175,7 +175,7 @@ module _ (reach : Reach) (test : Bool) (more : Rows) where
 
 module _ (window : Window) (reach r : Reach) (a b : ℕ) where
   pub leg_straight :
-      (start : Reach) (one two : Piece) (bent : List Piece) (more rest : Rows) →
+      (start : Reach) (one two : Piece) (bent : List Piece) (more rest : Option Rows) →
       ((k : Reach) → join_reach k (piece_reach window one) ≡ with_rows k more) →
       ((k : Reach) → join_reach k (piece_reach window two) ≡ with_rows k rest) →
       r ≡ with_rows start rest →
@@ -203,7 +203,7 @@ reach_one window p = join_no_reach (piece_reach window p)
 
 -- Rows one after the other are joined.
 pub with_rows_three :
-    (reach : Reach) (a b c : Rows) →
+    (reach : Reach) (a b c : Option Rows) →
     with_rows (with_rows (with_rows reach a) b) c ≡ with_rows reach (join_rows (join_rows a b) c)
 unfolding with_rows
 with_rows_three reach a b c = rw (join_assoc reach.rows a b, join_assoc reach.rows (join_rows a b) c)

@@ -1,4 +1,5 @@
 -- Sums and differences of two small numbers in signed 64 bits: each fits, and is the place along the flow; and a signed number as a coordinate.
+use Rattle.std.specs.Prelude.{Option, Some, None}
 use Prim.Native.Nat.{ℕ, zero, suc, ◌+◌, ◌-◌, ◌*◌, ◌≤◌, ◌<◌}
 use native.Mathlib.Omega.{arith}
 use mathlib.Core.Path.{◌≡◌, refl, sym, ap, ◌∙◌, subst}
@@ -11,8 +12,6 @@ use mir.Val.{Fits, SFits, to_z, of_z}
 use mir.ValLaws.{to_z_pos, to_z-of_z}
 use borrow.Author.Tests.{lt-ltb, le-ltb, ltb-true}
 use Rattle.ground.proofs.Order.{by_order}
-use Rattle.flow.specs.declared.Coordinate.{Coordinate}
-use Rattle.flow.specs.declared.Coordinate.TheVariants as coordinate
 use Rattle.flow.specs.Flow.{sign_of, coordinate_of, along}
 use Rattle.flow.specs.Bounds.{SmallCoordinate}
 
@@ -42,11 +41,11 @@ read_back z = to_z w64 (of_z w64 z)
 
 -- A signed number as a coordinate: one that the test finds below 0, and one that it does not, which is then an index.
 
-below_0 : (z : ℤ) → lt_z z (pos 0) ≡ true → coordinate.Below ≡ coordinate_of z
+below_0 : (z : ℤ) → lt_z z (pos 0) ≡ true → None ≡ coordinate_of z
 below_0 (pos n) t = absurd (omega (arith, ltb-true n 0 t))
 below_0 (negsuc n) t = refl
 
-at_0 : (z : ℤ) → lt_z z (pos 0) ≡ false → coordinate.At (nat_abs z) ≡ coordinate_of z
+at_0 : (z : ℤ) → lt_z z (pos 0) ≡ false → Some (nat_abs z) ≡ coordinate_of z
 at_0 (pos n) t = refl
 at_0 (negsuc n) t = absurd (never (sym t))
 
@@ -58,12 +57,12 @@ module _ (z : ℤ) (f : SFits w64 z) where
   same : read_back z ≡ z
   same = to_z-of_z w64 z f
 
-  pub tested_below : lt_z (read_back z) (pos 0) ≡ true → coordinate.Below ≡ coordinate_of z
+  pub tested_below : lt_z (read_back z) (pos 0) ≡ true → None ≡ coordinate_of z
   tested_below t = below_0 z (subst (λ (x : ℤ). lt_z x (pos 0) ≡ true) same t)
 
-  pub tested_at : lt_z (read_back z) (pos 0) ≡ false → coordinate.At (nat_abs (read_back z)) ≡ coordinate_of z
+  pub tested_at : lt_z (read_back z) (pos 0) ≡ false → Some (nat_abs (read_back z)) ≡ coordinate_of z
   tested_at t =
-      subst (λ (x : ℤ). coordinate.At (nat_abs x) ≡ coordinate_of z) (sym same) (at_0 z (subst (λ (x : ℤ). lt_z x (pos 0) ≡ false) same t))
+      subst (λ (x : ℤ). Some (nat_abs x) ≡ coordinate_of z) (sym same) (at_0 z (subst (λ (x : ℤ). lt_z x (pos 0) ≡ false) same t))
 
   pub tested_index : lt_z (read_back z) (pos 0) ≡ false → T (non_neg (read_back z)) × Fits w64 (nat_abs (read_back z))
   tested_index t =
@@ -86,15 +85,15 @@ sum_below a b h = rw (one_times b) (minus_below a b h)
 
 -- In plain words: the coordinate itself, or that it lies below 0.
 
-pub along_with : (a b : ℕ) → along true a b ≡ coordinate.At (a + b)
+pub along_with : (a b : ℕ) → along true a b ≡ Some (a + b)
 unfolding along
 along_with a b = ap coordinate_of (sum_with a b)
 
-pub along_back : (a b : ℕ) → b ≤ a → along false a b ≡ coordinate.At (a - b)
+pub along_back : (a b : ℕ) → b ≤ a → along false a b ≡ Some (a - b)
 unfolding along
 along_back a b h = ap coordinate_of (sum_back a b h)
 
-pub along_below : (a b : ℕ) → a < b → along false a b ≡ coordinate.Below
+pub along_below : (a b : ℕ) → a < b → along false a b ≡ None
 unfolding along
 along_below a b h = ap coordinate_of (sum_below a b h)
 
@@ -146,7 +145,7 @@ module _ (s : Bool) (sign : ℤ) (b : ℕ) (e : sign ≡ sign_of s) (hb : b < 0x
     along_small false = by_order a b (λ p. rw (along_below a b p) tt) (λ p. rw (along_back a b p) (omega arith))
 
     pub sum_along :
-        (r : Coordinate) →
+        (r : Option ℕ) →
         r ≡ coordinate_of (read_back (to_z w64 a +ℤ read_back (read_back sign *ℤ to_z w64 b))) →
         (r ≡ along s a b) × SmallCoordinate r
     unfolding along

@@ -1,4 +1,5 @@
 -- The rows and runs that the code finds are those of the definitions: the first and the last row that a piece, or a list of pieces, touches, and its runs.
+use Rattle.std.specs.Prelude.{Option, None, Some}
 use Prim.Native.Nat.{ℕ}
 use mathlib.Core.Path.{◌≡◌, refl, sym, ◌∙◌}
 use mathlib.Core.Bool.{Bool, true, false, cond, ◌&&◌, or-false}
@@ -9,14 +10,12 @@ use Rattle.ground.proofs.Each.{by_bool}
 use Rattle.cell.specs.declared.Arms.{Arms}
 use Rattle.cell.specs.OneCell.{horizontal, vertical}
 use Rattle.image.specs.declared.Edge.{Edge}
-use Rattle.rows.specs.declared.Rows.TheVariants as rows
 use Rattle.rows.specs.declared.Window.{Window}
 use Rattle.rows.specs.Spots.{stroke, Ink, inks, touches}
 use Rattle.rows.specs.Window.{touched_rows}
 use Rattle.rows.proofs.Windows.{touched_or, touched_same, touched_none, window_row}
 use Rattle.rows.proofs.Spots.{rows_nil, rows_one, rows_down, rows_along_lem}
 use Rattle.flow.specs.declared.Head.{Head}
-use Rattle.flow.specs.declared.Head.TheVariants as head
 use Rattle.flow.specs.declared.Line.{Line}
 use Rattle.flow.specs.declared.Piece.{Piece}
 use Rattle.flow.specs.declared.Piece.TheVariants.{Nothing, Vertical, Horizontal, Run, Stroke, Mark}
@@ -25,17 +24,17 @@ use Rattle.flow.specs.Reach.{has_inside, vertical_rows, horizontal_rows, piece_r
 
 -- every cell of a line is inked
 
-arrow_inks : (dashed : Bool) (h : Head) (n : ℕ) (otherwise : Ink) → inks [] otherwise ≡ true → inks [] (arrow_or dashed h n otherwise) ≡ true
+arrow_inks : (dashed : Bool) (h : Option Head) (n : ℕ) (otherwise : Ink) → inks [] otherwise ≡ true → inks [] (arrow_or dashed h n otherwise) ≡ true
 unfolding inks
-arrow_inks dashed head.None n otherwise i = i
-arrow_inks dashed (head.At k dir) n otherwise i = by_bool (eqb k n) (λ t. rw t) (λ t. rw t i)
+arrow_inks dashed None n otherwise i = i
+arrow_inks dashed (Some h) n otherwise i = by_bool (eqb h.place n) (λ t. rw t) (λ t. rw t i)
 
 line_inks : (dashed : Bool) (l : Line) (arms : Arms) (n : ℕ) → inks [] (line_ink dashed l arms n) ≡ true
 unfolding inks
 line_inks dashed l arms n = arrow_inks dashed l.winner n _ (arrow_inks dashed l.other n (stroke arms) refl)
 
 -- a row, where a test holds besides
-row_if_lem : (window : Window) (test : Bool) (row : ℕ) → cond test (touched_rows window (λ y. eqb row y)) rows.None ≡ touched_rows window (λ y. test && eqb row y)
+row_if_lem : (window : Window) (test : Bool) (row : ℕ) → cond test (touched_rows window (λ y. eqb row y)) None ≡ touched_rows window (λ y. test && eqb row y)
 row_if_lem window true row = refl
 row_if_lem window false row = sym (touched_none window _ (λ y i j. refl))
 

@@ -1,7 +1,5 @@
 -- For the proofs alone: bounds of what 32-bit fields and their sums come to, so that no sum of 64 bits wraps.
-use Rattle.std.specs.Prelude.{ℕ, ◌<◌}
-use Rattle.flow.specs.declared.Coordinate.{Coordinate}
-use Rattle.flow.specs.declared.Coordinate.TheVariants as coordinate
+use Rattle.std.specs.Prelude.{ℕ, ◌<◌, Option, Some, None}
 use Rattle.flow.specs.declared.Bend.{Bend}
 use Rattle.flow.specs.declared.Leg.{Leg}
 
@@ -21,6 +19,6 @@ pub record SmallLeg (leg : Leg) : Type 0 where
   pub x2 : leg.x2 < 0x100000000
   pub y2 : leg.y2 < 0x100000000
 
-abbrev pub SmallCoordinate : Coordinate → Type 0
-SmallCoordinate (coordinate.At n) = n < bound
-SmallCoordinate coordinate.Below = Unit {0}
+abbrev pub SmallCoordinate : Option ℕ → Type 0
+SmallCoordinate (Some n) = n < bound
+SmallCoordinate None = Unit {0}

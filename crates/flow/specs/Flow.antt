@@ -1,15 +1,12 @@
 -- What both flows share: the flow's sign, a coordinate so many cells along it, the arrows on a line, the arms of a corner, and the bend of an edge or of a leg.
 -- `s` is true for +1.
-use Rattle.std.specs.Prelude.{ℕ, ◌+◌, Bool, true, false, not, cond, ◌&&◌, leb, ltb, ℤ, pos, negsuc, ◌+ℤ◌, ◌*ℤ◌}
+use Rattle.std.specs.Prelude.{ℕ, ◌+◌, Bool, true, false, not, cond, ◌&&◌, leb, ltb, ℤ, pos, negsuc, ◌+ℤ◌, ◌*ℤ◌, Option, Some, None}
 use Rattle.cell.specs.declared.Weight.{Weight}
 use Rattle.cell.specs.declared.Weight.TheVariants as weight
 use Rattle.cell.specs.declared.Arms.{Arms}
 use Rattle.cell.specs.declared.Dir.{Dir}
 use Rattle.image.specs.declared.Edge.{Edge}
-use Rattle.flow.specs.declared.Coordinate.{Coordinate}
-use Rattle.flow.specs.declared.Coordinate.TheVariants as coordinate
 use Rattle.flow.specs.declared.Head.{Head}
-use Rattle.flow.specs.declared.Head.TheVariants as head
 use Rattle.flow.specs.declared.Line.{Line}
 use Rattle.flow.specs.declared.Bend.{Bend}
 use Rattle.flow.specs.declared.Leg.{Leg}
@@ -23,12 +20,12 @@ abbrev pub sign_of : Bool → ℤ
 sign_of s = cond s (pos 1) (negsuc 0)
 
 -- a signed sum as a coordinate, "compared before any cast": the number itself, or that it lies below 0
-abbrev pub coordinate_of : ℤ → Coordinate
-coordinate_of (pos n) = coordinate.At n
-coordinate_of (negsuc n) = coordinate.Below
+abbrev pub coordinate_of : ℤ → Option ℕ
+coordinate_of (pos n) = Some n
+coordinate_of (negsuc n) = None
 
 -- "signed 64-bit sums": "flow sign times offset from a coordinate"
-unfoldable pub along : Bool → ℕ → ℕ → Coordinate
+unfoldable pub along : Bool → ℕ → ℕ → Option ℕ
 along s from steps = coordinate_of (pos from +ℤ sign_of s *ℤ pos steps)
 
 -- "Reversed swaps start and end markers"
@@ -40,20 +37,20 @@ abbrev pub target_marker : Edge → Bool
 target_marker e = cond e.reversed e.start_marker e.end_marker
 
 -- an arrow at a coordinate, where one is wanted: "A row of −1 matches no cell."
-unfoldable pub head_at : Bool → Coordinate → Dir → Head
-head_at wanted (coordinate.At n) dir = cond wanted (head.At n dir) head.None
-head_at wanted coordinate.Below dir = head.None
+unfoldable pub head_at : Bool → Option ℕ → Dir → Option Head
+head_at wanted (Some n) dir = cond wanted (Some (record { place = n; dir = dir })) None
+head_at wanted None dir = None
 
 -- "a start arrow points −s at from y + s": the direction is the flow's to say
-unfoldable pub start_head : Bool → Bool → ℕ → Dir → Head
+unfoldable pub start_head : Bool → Bool → ℕ → Dir → Option Head
 start_head wanted s from dir = head_at wanted (along s from 1) dir
 
 -- "An end arrow points s at to y − s"
-unfoldable pub end_head : Bool → Bool → ℕ → Dir → Head
+unfoldable pub end_head : Bool → Bool → ℕ → Dir → Option Head
 end_head wanted s to dir = head_at wanted (along (not s) to 1) dir
 
 -- a line on a column (or a row) between two rows (or columns): "'Between' excludes both ends"; of two arrows on one cell the winner stands
-unfoldable pub line_of : ℕ → ℕ → ℕ → Head → Head → Line
+unfoldable pub line_of : ℕ → ℕ → ℕ → Option Head → Option Head → Line
 line_of lane from to winner other = record { lane = lane; from = from; to = to; winner = winner; other = other }
 
 -- an arm, where it is wanted

@@ -1,5 +1,5 @@
 -- What a piece of an edge makes, as data: strokes and arrows at places of the sheet, and runs, which wait.
-use Rattle.std.specs.Prelude.{ℕ, ◌+◌, Bool, false, cond, ◌||◌, List, [], ◌∷◌, map, eqb}
+use Rattle.std.specs.Prelude.{ℕ, ◌+◌, Bool, false, cond, ◌||◌, List, [], ◌∷◌, map, eqb, Option, None, Some}
 use Rattle.ground.specs.Each.{between}
 use Rattle.cell.specs.declared.Arms.{Arms}
 use Rattle.cell.specs.declared.MarkerKind.TheVariants as kind
@@ -9,16 +9,15 @@ use Rattle.rows.specs.declared.Window.{Window}
 use Rattle.rows.specs.Spots.{stroke, marker, Ink, Spot, at, touches}
 use Rattle.rows.specs.Window.{in_window}
 use Rattle.flow.specs.declared.Head.{Head}
-use Rattle.flow.specs.declared.Head.TheVariants as head
 use Rattle.flow.specs.declared.Line.{Line}
 use Rattle.flow.specs.declared.Piece.{Piece}
 use Rattle.flow.specs.declared.Piece.TheVariants.{Nothing, Vertical, Horizontal, Run, Stroke, Mark}
 
 -- a line's cell: an arrow where one is asked for there, "Reversed .. makes arrows dashed", or else a stroke
 
-abbrev pub arrow_or : Bool → Head → ℕ → Ink → Ink
-arrow_or dashed head.None n otherwise = otherwise
-arrow_or dashed (head.At k dir) n otherwise = cond (eqb k n) (marker kind.Arrow dir dashed) otherwise
+abbrev pub arrow_or : Bool → Option Head → ℕ → Ink → Ink
+arrow_or dashed None n otherwise = otherwise
+arrow_or dashed (Some h) n otherwise = cond (eqb h.place n) (marker kind.Arrow h.dir dashed) otherwise
 
 abbrev pub line_ink : Bool → Line → Arms → ℕ → Ink
 line_ink dashed l arms n = arrow_or dashed l.winner n (arrow_or dashed l.other n (stroke arms))

@@ -11,22 +11,13 @@ use cell::{Arms, Dir, Weight};
 use image::Edge;
 use rows::Rows;
 
-// A signed sum as a row or a column.
-#[derive(Clone, Copy)]
-pub enum Coordinate {
-    // 0 or more
-    At(usize),
-    // less than 0: it "matches no cell", and a corner there is refused
-    Below,
-}
-
 // An arrow on a line.
 #[derive(Clone, Copy)]
-pub enum Head {
-    // no arrow
-    None,
-    // at this row of a vertical line, or this column of a horizontal one, pointing this way
-    At(usize, Dir),
+pub struct Head {
+    // its row on a vertical line, its column on a horizontal one
+    pub place: usize,
+    // which way it points
+    pub dir: Dir,
 }
 
 // A line with at most two arrows.
@@ -39,9 +30,9 @@ pub struct Line {
     // the other end, which it leaves out too
     pub to: usize,
     // the arrow that stands where both want one cell
-    pub winner: Head,
+    pub winner: Option<Head>,
     // the other arrow
-    pub other: Head,
+    pub other: Option<Head>,
 }
 
 // One piece of ink of an edge.
@@ -125,8 +116,8 @@ pub struct Leg {
 // What ink reaches in a window of rows.
 #[derive(Clone, Copy)]
 pub struct Reach {
-    // the rows that it touches, from the first to the last
-    pub rows: Rows,
+    // the rows that it touches, from the first to the last, if any
+    pub rows: Option<Rows>,
     // how many runs it makes there
     pub runs: usize,
 }
@@ -138,19 +129,15 @@ fn sign_of(s: bool) -> i64
     if s { 1 } else { -1 }
 }
 
-// A signed sum as a coordinate: "compared before any cast".
-fn coordinate_of(sum: i64) -> Coordinate
+// A signed sum as a row or a column: "compared before any cast". None is less than 0: it "matches no cell", and a corner there is refused.
+fn coordinate_of(sum: i64) -> Option<usize>
     ensures { result ≡ coordinate_of sum }
 {
-    if sum < 0 {
-        Coordinate::Below
-    } else {
-        Coordinate::At(sum as usize)
-    }
+    if sum < 0 { None } else { Some(sum as usize) }
 }
 
 // from + s·steps, in "signed 64-bit sums".
-pub fn along(s: bool, from: usize, steps: usize) -> Coordinate
+pub fn along(s: bool, from: usize, steps: usize) -> Option<usize>
     requires { (from < 0x800000000000) × (steps < 0x800000000000) }
     ensures { (result ≡ along s from steps) × SmallCoordinate result }
 {
@@ -181,17 +168,19 @@ pub fn target_marker(e: Edge) -> bool
 }
 
 // An arrow at a coordinate, where one is wanted.
-fn head_at(wanted: bool, coordinate: Coordinate, dir: Dir) -> Head
+fn head_at(wanted: bool, coordinate: Option<usize>, dir: Dir) -> Option<Head>
     ensures { result ≡ head_at wanted coordinate dir }
 {
-    let Coordinate::At(n) = coordinate else {
-        return Head::None;
-    };
-    if wanted { Head::At(n, dir) } else { Head::None }
+    let place = coordinate?;
+    if wanted {
+        Some(Head { place, dir })
+    } else {
+        None
+    }
 }
 
 // "a start arrow points −s at from y + s"
-pub fn start_head(wanted: bool, s: bool, from: usize, dir: Dir) -> Head
+pub fn start_head(wanted: bool, s: bool, from: usize, dir: Dir) -> Option<Head>
     requires { from < 0x800000000000 }
     ensures { result ≡ start_head wanted s from dir }
 {
@@ -199,22 +188,28 @@ pub fn start_head(wanted: bool, s: bool, from: usize, dir: Dir) -> Head
 }
 
 // "An end arrow points s at to y − s"
-pub fn end_head(wanted: bool, s: bool, to: usize, dir: Dir) -> Head
+pub fn end_head(wanted: bool, s: bool, to: usize, dir: Dir) -> Option<Head>
     requires { to < 0x800000000000 }
     ensures { result ≡ end_head wanted s to dir }
 {
     head_at(wanted, along(!s, to, 1), dir)
 }
 
-pub fn line_of(lane: usize, from: usize, to: usize, winner: Head, other: Head) -> Line
+pub fn line_of(
+    lane: usize,
+    from: usize,
+    to: usize,
+    winner: Option<Head>,
+    other: Option<Head>,
+) -> Line
     ensures { result ≡ line_of lane from to winner other }
 {
     Line {
-        lane: lane,
-        from: from,
-        to: to,
-        winner: winner,
-        other: other,
+        lane,
+        from,
+        to,
+        winner,
+        other,
     }
 }
 

@@ -48,10 +48,8 @@ pub fn flush_rows(
     requires n_in_bounds { (run_size * n ≤ length scratch.now) × (length heads.now ≡ block_rows) × AllThreaded scratch.now heads.now base n }
     ensures { cells.new ≡ turns (cells_at v ranges.now (kept_runs scratch.now n)) base (end - base) cells.old }
 {
-    let mut y = base;
-    while y < end {
+    for y in base..end {
         let head = ground::number(heads[y - base]);
         flush_row(cells, ranges, scratch, n, head, v, y);
-        y += 1;
     }
 }

@@ -49,11 +49,9 @@ fn colour_rows(
     requires n_in_bounds { (run_size * n ≤ length scratch.now) × (length heads.now ≡ block_rows) × AllThreaded scratch.now heads.now base n }
     ensures { colours.new ≡ turns (colours_at v (kept_runs scratch.now n) stamps.now) base (end - base) colours.old }
 {
-    let mut y = base;
-    while y < end {
+    for y in base..end {
         let head = ground::number(heads[y - base]);
         colour_row(colours, stamps, scratch, n, head, v, y);
-        y += 1;
     }
 }
 

@@ -66,6 +66,7 @@ pub fn flush(
     let first = v.first;
     let last = first + v.rows;
     let mut base = first;
+    // a block at a time, the last one cut short: a range of rows would name none of its ends
     while base < last {
         let end = ground::min(base + BLOCK, last);
         flush_block(

@@ -32,9 +32,7 @@ pub fn thread(scratch: &mut [u32], heads: &mut [u32], base: usize, n: usize)
     requires threaded { Threaded scratch.old scratch.old heads.old base 0 }
     ensures { Threaded scratch.old scratch.new heads.new base n }
 {
-    let mut k: usize = 0;
-    while k < n {
+    for k in 0..n {
         thread_run(scratch, heads, base, k);
-        k += 1;
     }
 }

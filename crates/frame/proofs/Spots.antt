@@ -1,4 +1,5 @@
 -- The rows that spots touch: of a box, of glyphs side by side, of the simple look, and of ink on rows that are touched anyhow.
+use Rattle.std.specs.Prelude.{None}
 use native.Mathlib.Omega.{arith}
 use Prim.Native.Nat.{ℕ, ◌+◌, ◌-◌, ◌≤◌, ◌<◌, min, max}
 use mathlib.Core.Bool.{Bool, true, false, cond, ◌&&◌, ◌||◌, and-true, and-false}
@@ -13,7 +14,6 @@ use Rattle.cell.specs.declared.Weight.{Weight}
 use Rattle.cell.specs.OneCell.{horizontal, vertical}
 use Rattle.glyph.specs.Width.{width_of}
 use Rattle.image.specs.declared.Node.{Node}
-use Rattle.rows.specs.declared.Rows.TheVariants.{None}
 use Rattle.rows.specs.declared.Window.{Window}
 use Rattle.rows.specs.Spots.{Spot, at, stroke, glyph, inks, touches}
 use Rattle.rows.specs.Window.{touched_rows}

@@ -1,5 +1,6 @@
 -- The rows that the code computes are the first and the last that the spots of a node and of a subgraph touch.
 use native.Mathlib.Omega.{arith}
+use Rattle.std.specs.Prelude.{Option, Some, None}
 use Prim.Native.Nat.{ℕ, ◌+◌, ◌-◌, ◌≤◌, ◌<◌}
 use mathlib.Core.Bool.{Bool, true, false, ◌&&◌}
 use mathlib.Core.List.{List}
@@ -11,8 +12,7 @@ use Rattle.cell.specs.OneCell.{weight_number}
 use Rattle.glyph.specs.Width.{width_of}
 use Rattle.image.specs.declared.NodeKind.{NodeKind}
 use Rattle.image.specs.declared.NodeKind.TheVariants as kind
-use Rattle.image.specs.declared.SelfLoop.{SelfLoop}
-use Rattle.image.specs.declared.SelfLoop.TheVariants as loop
+use Rattle.image.specs.declared.Point.{Point}
 use Rattle.image.specs.declared.Node.{Node}
 use Rattle.image.specs.declared.Subgraph.{Subgraph}
 use Rattle.rows.specs.declared.Window.{Window}
@@ -34,10 +34,10 @@ border_tall s e =
     (and_right (leb 2 s.width) (leb 2 s.height) (and_right (ltb 0 (weight_number s.border)) (leb 2 s.width && leb 2 s.height) e))
 
 module _ (w : Window) (ranges : List ℕ) where
-  loop_rows_lem : (at : SelfLoop) → touched_rows w (touches ranges (loop_spots at)) ≡ loop_rows w at
+  loop_rows_lem : (at : Option Point) → touched_rows w (touches ranges (loop_spots at)) ≡ loop_rows w at
   unfolding inks
-  loop_rows_lem loop.None = rows_nil w ranges
-  loop_rows_lem (loop.At x y) = rows_one w ranges x y _ refl
+  loop_rows_lem None = rows_nil w ranges
+  loop_rows_lem (Some p) = rows_one w ranges p.x p.y _ refl
 
   -- the label's row lies in the box
   boxed_rows :

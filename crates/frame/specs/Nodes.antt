@@ -1,13 +1,12 @@
 -- "Nodes": how a node looks, and what it makes.
-use Rattle.std.specs.Prelude.{ℕ, ◌+◌, ◌-◌, max, Bool, false, cond, ◌&&◌, List, [], ◌∷◌, ◌++◌, leb}
+use Rattle.std.specs.Prelude.{ℕ, ◌+◌, ◌-◌, max, Bool, false, cond, ◌&&◌, List, [], ◌∷◌, ◌++◌, leb, Option, Some, None}
 use Rattle.cell.specs.declared.Weight.TheVariants.{Light}
 use Rattle.cell.specs.declared.MarkerKind.TheVariants as markerKind
 use Rattle.cell.specs.declared.Dir.TheVariants.{Up}
 use Rattle.glyph.specs.Width.{width_of}
 use Rattle.image.specs.declared.NodeKind.{NodeKind}
 use Rattle.image.specs.declared.NodeKind.TheVariants as kind
-use Rattle.image.specs.declared.SelfLoop.{SelfLoop}
-use Rattle.image.specs.declared.SelfLoop.TheVariants as loop
+use Rattle.image.specs.declared.Point.{Point}
 use Rattle.image.specs.declared.Node.{Node}
 use Rattle.rows.specs.Spots.{Spot, at, marker, glyph}
 use Rattle.frame.specs.declared.Look.{Look}
@@ -57,9 +56,9 @@ simple_spots ranges n glyphs =
     ++ cond (leb 2 n.width) (at (closing n) n.y (glyph 0x5D) ∷ []) []
 
 -- "Then the self-loop marker, Up."
-abbrev pub loop_spots : SelfLoop → List Spot
-loop_spots loop.None = []
-loop_spots (loop.At x y) = at x y (marker markerKind.SelfLoop Up false) ∷ []
+abbrev pub loop_spots : Option Point → List Spot
+loop_spots None = []
+loop_spots (Some p) = at p.x p.y (marker markerKind.SelfLoop Up false) ∷ []
 
 -- what a node makes that looks so: a dummy "nothing else", and "Blank: none", all but dummies then their self-loop
 unfoldable pub look_spots : List ℕ → Node → List ℕ → Look → List Spot

@@ -14,7 +14,7 @@ pub fn at_least(a: u32, least_a: u32, b: u32, least_b: u32) -> bool
 }
 
 // A row alone.
-pub fn row_at(window: Window, y: u32) -> Rows
+pub fn row_at(window: Window, y: u32) -> Option<Rows>
     ensures { result ≡ window_rows window y y }
 {
     let row = ground::number(y);
@@ -22,7 +22,7 @@ pub fn row_at(window: Window, y: u32) -> Rows
 }
 
 // The rows of a box, so many from y on.
-pub fn box_rows(window: Window, y: u32, height: u32) -> Rows
+pub fn box_rows(window: Window, y: u32, height: u32) -> Option<Rows>
     ensures { result ≡ box_rows window y height }
 {
     let first = ground::number(y);
@@ -47,12 +47,10 @@ pub fn fitting_part<'a, 'b>(ranges: &'b [u32], width: u32, label: &'a [u32]) -> 
 pub fn any_ink(ranges: &[u32], glyphs: &[u32]) -> bool
     ensures { result ≡ any_ink ranges.now glyphs.now }
 {
-    let mut k: usize = 0;
-    while k < glyphs.len() {
-        if 0 < glyph::char_width(ranges, glyphs[k]) {
+    for glyph in glyphs {
+        if 0 < glyph::char_width(ranges, *glyph) {
             return true;
         }
-        k += 1;
     }
     false
 }

@@ -11,8 +11,7 @@ use rows::{Rows, Window};
 pub fn has_border(s: Subgraph) -> bool
     ensures { result ≡ has_border s }
 {
-    let border = s.border;
-    if 0 < border.number() {
+    if s.border.is_arm() {
         frames::at_least(s.width, 2, s.height, 2)
     } else {
         false
@@ -56,31 +55,31 @@ fn label_inks(ranges: &[u32], s: Subgraph, label: &[u32]) -> bool
 }
 
 // The rows of the border, where there is one.
-fn border_rows(window: Window, s: Subgraph) -> Rows
+fn border_rows(window: Window, s: Subgraph) -> Option<Rows>
     ensures { result ≡ border_rows window s }
 {
     if has_border(s) {
         frames::box_rows(window, s.y, s.height)
     } else {
-        Rows::None
+        None
     }
 }
 
 // The row of the label, where it makes ink.
-fn label_rows(window: Window, ranges: &[u32], s: Subgraph, label: &[u32]) -> Rows
+fn label_rows(window: Window, ranges: &[u32], s: Subgraph, label: &[u32]) -> Option<Rows>
     ensures { result ≡ label_rows window ranges.now s label.now }
 {
     if label_inks(ranges, s, label) {
         let row = label_row(s);
         window.clip(row, row)
     } else {
-        Rows::None
+        None
     }
 }
 
 // The rows of a window that a subgraph touches, from the first to the last.
-pub fn subgraph_rows(window: Window, ranges: &[u32], s: Subgraph, label: &[u32]) -> Rows
+pub fn subgraph_rows(window: Window, ranges: &[u32], s: Subgraph, label: &[u32]) -> Option<Rows>
     ensures { result ≡ subgraph_rows window ranges.now s label.now }
 {
-    border_rows(window, s).join(label_rows(window, ranges, s, label))
+    rows::join(border_rows(window, s), label_rows(window, ranges, s, label))
 }

@@ -2,14 +2,16 @@
 use native.Mathlib.Omega.{arith}
 use native.Mathlib.Numerals.{add-one}
 use Prim.Native.Nat.{ℕ, zero, suc, ◌+◌, ◌-◌, ◌≤◌, ◌<◌}
-use mathlib.Core.Path.{◌≡◌, refl, sym, ◌∙◌}
+use mathlib.Core.Path.{◌≡◌, refl, sym, ◌∙◌, ap}
 use mathlib.Core.Bool.{true, false}
 use mathlib.Core.List.{List}
 use lib.ListN.{length, get_or, drop, drop_of_length-le}
 use lib.Seq.{drop-cons}
 use borrow.Author.Tests.{lt-ltb, le-ltb, le-leb, lt-leb}
-use Rattle.ground.specs.declared.Found.TheVariants as none
+use Rattle.std.specs.Prelude.{Some, None}
+use Rattle.std.specs.Bool.{then_some}
 use Rattle.ground.specs.Judged.{first_bad}
+use Rattle.ground.proofs.Each.{by_bool}
 use Rattle.ground.proofs.Order.{by_order}
 use Rattle.glyph.specs.Width.{bisect, middle, width_of, first_of, last_of, range_width, range_count}
 use Rattle.glyph.specs.Ranges.{range_broken, judged_range}
@@ -72,13 +74,19 @@ module _ (t : List ℕ) (v low high r : ℕ) (i : bisect (high - low) t v low hi
 module _ (place : ℕ → ℕ) (t : List ℕ) (k : ℕ) where
   -- a range that is looked at, one that keeps the rule and one that breaks it
 
-  pub range_kept : range_broken t k ≡ false → first_bad (judged_range place t k) ≡ none.None
+  pub range_kept : range_broken t k ≡ false → first_bad (judged_range place t k) ≡ None
   unfolding first_bad
   range_kept e = rw e
 
-  pub range_hit : range_broken t k ≡ true → first_bad (judged_range place t k) ≡ none.At (place k)
+  pub range_hit : range_broken t k ≡ true → first_bad (judged_range place t k) ≡ Some (place k)
   unfolding first_bad
   range_hit e = rw e
+
+  pub range_looked : then_some (range_broken t k) (place k) ≡ first_bad (judged_range place t k)
+  range_looked =
+      by_bool (range_broken t k)
+      (λ b. ap (λ x. then_some x (place k)) b ∙ sym (range_hit b))
+      (λ b. ap (λ x. then_some x (place k)) b ∙ sym (range_kept b))
 
 module _ (label t : List ℕ) (left n r : ℕ) (i : n + fit_count (drop n label) t left ≡ r) where
   -- no glyph is left

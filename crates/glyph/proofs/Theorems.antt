@@ -10,6 +10,7 @@ use lib.Dec.{eqb, ltb, leb}
 use lib.ListN.{length, get_or, take, length-take}
 use lib.Seq.{length-take-le}
 use borrow.Author.Tests.{not-true, ltb-false, leb-false, lt-ltb, le-ltb, le-leb, lt-leb}
+use Rattle.std.specs.Prelude.{None}
 use Rattle.layout.specs.Layout.{range_size}
 use Rattle.layout.specs.Layout as layout
 use Rattle.glyph.specs.Width.{InOrder, bisect, middle, width_of, first_of, last_of, range_width, range_count}
@@ -17,7 +18,6 @@ use Rattle.glyph.specs.Ranges.{holds, holds_fixed, not_above, range_broken, judg
 use Rattle.glyph.specs.Ranges.{Fixed, space, quote, opening, closing, RangeGood, WidthsRight}
 use Rattle.glyph.specs.Fitting.{columns_of, fit_count, fit_prefix, LongestPrefix}
 use Rattle.glyph.proofs.Laws.{by_range, range_kept, range_hit}
-use Rattle.ground.specs.declared.Found.TheVariants as found
 use Rattle.ground.specs.Each.{numbers, each}
 use Rattle.ground.specs.Judged.{first_bad}
 use Rattle.ground.proofs.Each.{or_left, or_right, or_neither, by_bool, every_number, number_every}
@@ -137,14 +137,14 @@ range_good_iff t k =
       (λ g. or_neither (or_neither (le-ltb _ _ g.own) (above.1 g.above)) (no_fixed _ _ (λ value f. (outside_iff _ _ value).1 (g.fixed value f)))),
     )
 
-unhit : (t : List ℕ) (k : ℕ) → first_bad (judged_range (λ n. n) t k) ≡ found.None → range_broken t k ≡ false
+unhit : (t : List ℕ) (k : ℕ) → first_bad (judged_range (λ n. n) t k) ≡ None → range_broken t k ≡ false
 unhit t k h =
     by_bool (range_broken t k)
     (λ e. let z : ◌≡◌ {A = ℕ} 0 1 = cc (range_hit (λ n. n) t k e) in absurd (omega arith))
     (λ e. e)
 
 -- None is broken exactly where each keeps the rule.
-pub ranges_good_iff : (t : List ℕ) → (first_broken t ≡ found.None) ↔ ((k : ℕ) → k < range_count t → RangeGood t k)
+pub ranges_good_iff : (t : List ℕ) → (first_broken t ≡ None) ↔ ((k : ℕ) → k < range_count t → RangeGood t k)
 unfolding first_broken judged_ranges
 ranges_good_iff t = (
   λ h k p. (range_good_iff t k).0 (unhit t k (none_of_each (judged_range (λ n. n) t) _ h k p)),
@@ -152,7 +152,7 @@ ranges_good_iff t = (
 )
 
 -- The test of a whole table says so too.
-pub all_good_iff : (t : List ℕ) → (ranges_good t ≡ true) ↔ (first_broken t ≡ found.None)
+pub all_good_iff : (t : List ℕ) → (ranges_good t ≡ true) ↔ (first_broken t ≡ None)
 unfolding ranges_good first_broken judged_ranges
 all_good_iff t = (
   λ h. each_of_none (judged_range (λ n. n) t) _ (λ k p. range_kept (λ n. n) t k (not-true _ (every_number (λ n. not (range_broken t n)) 0 _ h k (omega arith) (omega arith)))),
@@ -171,14 +171,14 @@ unfolding first_broken judged_ranges
 broken_placed place t = broken_among place t (numbers 0 (range_count t))
 
 -- A table without a broken range is in order.
-pub good_in_order : (t : List ℕ) → first_broken t ≡ found.None → InOrder t
+pub good_in_order : (t : List ℕ) → first_broken t ≡ None → InOrder t
 good_in_order t h =
     let good = (ranges_good_iff t).0 h in
     let back : (k : ℕ) → suc k - 1 ≡ k = λ k. omega arith in
     record { own = λ k p. (good k p).own; next = λ k p. rw (back k) at ((good (suc k) p).above (omega arith)) }
 
 -- The widths that it gives: a value that a range holds has that range's width, any other 1, and so have the four fixed characters.
-pub right_widths : (t : List ℕ) → first_broken t ≡ found.None → WidthsRight t
+pub right_widths : (t : List ℕ) → first_broken t ≡ None → WidthsRight t
 right_widths t h =
     let good = (ranges_good_iff t).0 h in
     record {

@@ -1,10 +1,8 @@
 -- The rule of code 5: "a width range has first > last, first not above the last before it, or holds 0020, 0022, 005B or 005D". It is one test, over any
 -- table of ranges.
-use Rattle.std.specs.Prelude.{ℕ, ◌-◌, ◌≤◌, ◌<◌, Bool, not, ◌&&◌, ◌||◌, List, [], ◌∷◌, ◌≡◌, leb, ltb}
+use Rattle.std.specs.Prelude.{ℕ, ◌-◌, ◌≤◌, ◌<◌, Bool, not, ◌&&◌, ◌||◌, List, [], ◌∷◌, ◌≡◌, leb, ltb, Option, Some, None}
 use Rattle.ground.specs.Each.{numbers, each, every}
 use Rattle.ground.specs.Judged.{Judged, judged, first_bad}
-use Rattle.ground.specs.declared.Found.{Found}
-use Rattle.ground.specs.declared.Found.TheVariants as found
 use Rattle.glyph.specs.Width.{range_count, first_of, last_of, range_width, width_of}
 
 -- a range from first to last holds a value
@@ -31,7 +29,7 @@ unfoldable pub judged_ranges : (ℕ → ℕ) → List ℕ → List Judged
 judged_ranges place ranges = each (numbers 0 (range_count ranges)) (judged_range place ranges)
 
 -- the first range that breaks it, by its number
-unfoldable pub first_broken : List ℕ → Found
+unfoldable pub first_broken : List ℕ → Option ℕ
 first_broken ranges = first_bad (judged_ranges (λ k. k) ranges)
 
 -- no range breaks it
@@ -39,9 +37,9 @@ unfoldable pub ranges_good : List ℕ → Bool
 ranges_good ranges = every (numbers 0 (range_count ranges)) (λ k. not (range_broken ranges k))
 
 -- the place of the range that is found
-abbrev pub placed : (ℕ → ℕ) → Found → Found
-placed place found.None = found.None
-placed place (found.At k) = found.At (place k)
+abbrev pub placed : (ℕ → ℕ) → Option ℕ → Option ℕ
+placed place None = None
+placed place (Some k) = Some (place k)
 
 -- the four characters
 pub data Fixed : ℕ → Type 0 where

@@ -6,8 +6,6 @@ ghost use Rattle.glyph.specs.Width.{width_of, first_of, last_of, range_width, ra
 ghost use Rattle.glyph.specs.Ranges.{holds, holds_fixed, not_above, range_broken, first_broken};
 ghost use Rattle.glyph.specs.Fitting.{fit_count, fit_prefix};
 
-use ground::Found;
-
 // One width range: the values from first to last have this width.
 #[derive(Clone, Copy)]
 pub struct Range {
@@ -99,18 +97,11 @@ fn range_broken(ranges: &[u32], k: usize) -> bool
 }
 
 // The first range that breaks the rule of code 5.
-pub fn first_broken(ranges: &[u32]) -> Found
+pub fn first_broken(ranges: &[u32]) -> Option<usize>
     ensures { result ≡ first_broken ranges.now }
 {
     let count = ranges.len() / layout::RANGE_SIZE;
-    let mut k: usize = 0;
-    while k < count {
-        if range_broken(ranges, k) {
-            return Found::At(k);
-        }
-        k += 1;
-    }
-    Found::None
+    ground::first_found(count, |k| range_broken(ranges, k).then_some(k))
 }
 
 // How many glyphs of the label fit into so many columns.
@@ -118,16 +109,14 @@ fn fit_count(label: &[u32], ranges: &[u32], columns: usize) -> usize
     ensures { (result ≡ fit_count label.now ranges.now columns) × (result ≤ length label.now) }
 {
     let mut left = columns;
-    let mut n: usize = 0;
-    while n < label.len() {
-        let width = ground::number(char_width(ranges, label[n]));
+    for (n, glyph) in label.iter().enumerate() {
+        let width = ground::number(char_width(ranges, *glyph));
         if left < width {
             return n;
         }
         left -= width;
-        n += 1;
     }
-    n
+    label.len()
 }
 
 // "The fitting part is the longest prefix .. handed back as a part of the lent glyphs."

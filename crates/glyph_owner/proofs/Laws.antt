@@ -1,33 +1,21 @@
 -- Laws over plain values, which the functions' proofs cite: a thing's label, the search for the first label that holds a glyph, and the kinds in turn.
+use Rattle.std.specs.Prelude.{Option, Some, None}
+use Rattle.std.specs.Option.{option_or}
 use Prim.Native.Nat.{ℕ, ◌+◌, ◌-◌, ◌≤◌, ◌<◌}
 use mathlib.Core.Bool.{Bool, true, false}
 use mathlib.Core.List.{List}
 use mathlib.Core.Path.{◌≡◌, sym, ◌∙◌, ap}
-use Rattle.layout.specs.declared.Table.{Table}
 use Rattle.layout.specs.declared.Tables.{Tables}
 use Rattle.layout.specs.Tables.{tables_of}
 use Rattle.image.specs.declared.Span.{Span}
 use Rattle.image.specs.declared.Node.{Node}
-use Rattle.image.specs.declared.Edge.{Edge}
-use Rattle.image.specs.declared.EdgeLabel.TheVariants as label
 use Rattle.image.specs.declared.Subgraph.{Subgraph}
 use Rattle.image.specs.declared.ElementKind.{ElementKind}
 use Rattle.image.specs.declared.ElementKind.TheVariants as kind
 use Rattle.image.specs.Records.{node_at, edge_at, subgraph_at, thing_table}
 use Rattle.finding.proofs.Search.{found_to, search_whole, search_hit, search_on, search_done}
 use Rattle.glyph_owner.specs.declared.GlyphOwner.{GlyphOwner}
-use Rattle.glyph_owner.specs.declared.GlyphOwner.TheVariants as owner
-use Rattle.glyph_owner.specs.Owner.{edge_span, label_of, holds_glyph, has_glyph, holder_of, owner_at, owner_in, owner_or, owner_of}
-
--- An edge without a label, and one with a label.
-module _ (image : List ℕ) (edges : Table) (k : ℕ) (edge : Edge) (e : edge ≡ edge_at image edges k) where
-  pub label_absent : edge.label ≡ label.None → ◌≡◌ {A = Span} (record { start = 0; count = 0 }) (edge_span (edge_at image edges k).label)
-  unfolding edge_span
-  label_absent l = rw (← e, l)
-
-  pub label_there : (span : Span) → edge.label ≡ label.Present span → span ≡ edge_span (edge_at image edges k).label
-  unfolding edge_span
-  label_there span l = rw (← e, l)
+use Rattle.glyph_owner.specs.Owner.{edge_span, label_of, holds_glyph, has_glyph, holder_of, owner_at, owner_in, owner_of}
 
 -- The label of a thing, by its kind.
 module _ (own : ElementKind) (image : List ℕ) (ts : Tables) (k : ℕ) where
@@ -59,7 +47,7 @@ module _ (kind : ElementKind) (image : List ℕ) (ts : Tables) (glyph : ℕ) whe
 
       pub look_hit :
           (start position : ℕ) → held ≡ true → start ≡ label.start → position ≡ glyph - start →
-          owner.Label kind k position ≡ owner_in kind image ts glyph
+          ◌≡◌ {A = Option GlyphOwner} (Some (record { kind = kind; index = k; position = position })) (owner_in kind image ts glyph)
       unfolding owner_at
       look_hit start position z s p =
           rw (p, s, l, ← search_hit (has_glyph kind image ts glyph) (thing_table kind ts).count _ k left (rw n at h) (sym here ∙ z))
@@ -67,19 +55,19 @@ module _ (kind : ElementKind) (image : List ℕ) (ts : Tables) (glyph : ℕ) whe
       pub look_on : held ≡ false → Looked (k + 1)
       look_on z = search_on (has_glyph kind image ts glyph) (thing_table kind ts).count _ k left (rw n at h) (sym here ∙ z)
 
-    pub look_done : count ≤ k → owner.None ≡ owner_in kind image ts glyph
+    pub look_done : count ≤ k → None ≡ owner_in kind image ts glyph
     unfolding owner_at
     look_done h = rw (← search_done (has_glyph kind image ts glyph) (thing_table kind ts).count _ k left (rw n at h))
 
 -- nodes, edges, subgraphs in turn
 pub in_turn :
-    (image : List ℕ) (ts : Tables) (glyph : ℕ) (node edge subgraph later r : GlyphOwner) →
+    (image : List ℕ) (ts : Tables) (glyph : ℕ) (by_node by_edge by_subgraph later r : Option GlyphOwner) →
     ts ≡ tables_of image →
-    node ≡ owner_in kind.Node image ts glyph →
-    edge ≡ owner_in kind.Edge image ts glyph →
-    subgraph ≡ owner_in kind.Subgraph image ts glyph →
-    later ≡ owner_or edge subgraph →
-    r ≡ owner_or node later →
+    by_node ≡ owner_in kind.Node image ts glyph →
+    by_edge ≡ owner_in kind.Edge image ts glyph →
+    by_subgraph ≡ owner_in kind.Subgraph image ts glyph →
+    later ≡ option_or by_edge by_subgraph →
+    r ≡ option_or by_node later →
     r ≡ owner_of image (tables_of image) glyph
 unfolding owner_of
-in_turn image ts glyph node edge subgraph later r t a b c d e = rw (e, d, a, b, c, t)
+in_turn image ts glyph by_node by_edge by_subgraph later r t a b c d e = rw (e, d, a, b, c, t)

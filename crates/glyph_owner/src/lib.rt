@@ -5,25 +5,20 @@ ghost use Rattle.std.specs.Prelude.{◌≡◌, ◌<◌};
 ghost use Rattle.layout.specs.Small.{Small, AllSmall};
 ghost use Rattle.layout.specs.Tables.{tables_of};
 ghost use Rattle.image.specs.Records.{edge_at, thing_table};
-ghost use Rattle.glyph_owner.specs.Owner.{edge_span, label_of, holds_glyph, owner_in, owner_or, owner_of};
+ghost use Rattle.glyph_owner.specs.Owner.{edge_span, label_of, holds_glyph, owner_in, owner_of};
 
-use image::{EdgeLabel, ElementKind, Span};
+use image::{ElementKind, Span};
 use layout::{Table, Tables};
 
-// Whose label a glyph belongs to.
+// Whose label a glyph belongs to: the first that holds it, those of nodes, edges and subgraphs in turn.
 #[derive(Clone, Copy)]
-pub enum GlyphOwner {
-    // no label holds it
-    None,
-    // the first label that holds it, those of nodes, edges and subgraphs in turn
-    Label {
-        // what kind of thing the label is of
-        kind: ElementKind,
-        // which thing of the kind
-        index: usize,
-        // which glyph of the label, the first being 0
-        position: usize,
-    },
+pub struct GlyphOwner {
+    // what kind of thing the label is of
+    pub kind: ElementKind,
+    // which thing of the kind
+    pub index: usize,
+    // which glyph of the label, the first being 0
+    pub position: usize,
 }
 
 // The glyphs of the label of edge k: none where it has no label.
@@ -32,11 +27,7 @@ fn edge_span(image: &[u32], edges: Table, k: usize) -> Span
     ensures { result ≡ edge_span (edge_at image.now edges k).label }
 {
     let edge = image::edge_at(image, edges, k);
-    let label = edge.label;
-    let EdgeLabel::Present(span) = label else {
-        return Span { start: 0, count: 0 };
-    };
-    span
+    edge.label.unwrap_or(Span { start: 0, count: 0 })
 }
 
 // The label of thing k of a kind.
@@ -79,47 +70,31 @@ fn holds_glyph(label: Span, glyph: usize) -> bool
 }
 
 // The first thing of a kind whose label holds this glyph.
-fn owner_in(kind: ElementKind, image: &[u32], ts: Tables, glyph: usize) -> GlyphOwner
+fn owner_in(kind: ElementKind, image: &[u32], ts: Tables, glyph: usize) -> Option<GlyphOwner>
     requires { AllSmall ts }
     ensures { result ≡ owner_in kind image.now ts glyph }
 {
     let count = thing_count(kind, ts);
-    let mut k: usize = 0;
-    while k < count {
+    for k in 0..count {
         let label = label_of(kind, image, ts, k);
         if holds_glyph(label, glyph) {
-            return GlyphOwner::Label {
-                kind: kind,
+            return Some(GlyphOwner {
+                kind,
                 index: k,
                 position: ground::minus(glyph, ground::number(label.start)),
-            };
+            });
         }
-        k += 1;
     }
-    GlyphOwner::None
-}
-
-// The first of the two that is there.
-fn owner_or(one: GlyphOwner, other: GlyphOwner) -> GlyphOwner
-    ensures { result ≡ owner_or one other }
-{
-    match one {
-        GlyphOwner::None => other,
-        GlyphOwner::Label {
-            kind,
-            index,
-            position,
-        } => one,
-    }
+    None
 }
 
 // Whose label a glyph of the table belongs to.
-pub fn owner_of(image: &[u32], glyph: usize) -> GlyphOwner
+pub fn owner_of(image: &[u32], glyph: usize) -> Option<GlyphOwner>
     ensures { result ≡ owner_of image.now (tables_of image.now) glyph }
 {
     let ts = layout::tables_of(image);
     let node = owner_in(ElementKind::Node, image, ts, glyph);
     let edge = owner_in(ElementKind::Edge, image, ts, glyph);
     let subgraph = owner_in(ElementKind::Subgraph, image, ts, glyph);
-    owner_or(node, owner_or(edge, subgraph))
+    node.or(edge.or(subgraph))
 }

@@ -4,13 +4,17 @@ use native.Mathlib.Numerals.{add-one}
 use native.Mathlib.Nat.{suc-add, add-zero, zero-add, mul-suc, mul-zero}
 use Prim.Native.Nat.{ℕ, zero, suc, ◌+◌, ◌-◌, ◌*◌, ◌≤◌, ◌<◌}
 use lib.ListN.{length, length-append}
-use mathlib.Core.Bool.{Bool, true, false, cond, ◌&&◌, ◌||◌, and_assoc, or_assoc, or-true}
+use mathlib.Core.Bool.{Bool, true, false, not, cond, ◌&&◌, ◌||◌, and_assoc, or_assoc, or-true}
 use mathlib.Core.List.{List, [], ◌∷◌, ◌++◌, append_assoc}
 use mathlib.Core.Path.{◌≡◌, refl, sym, ◌∙◌}
 use Rattle.ground.specs.Each.{numbers, each, some, every}
 use Rattle.ground.proofs.Order.{by_order}
 
--- Tests that hold together, and tests of which one holds.
+-- Tests that hold together, tests of which one holds, and a test that is turned twice.
+
+pub not_not : (a : Bool) → not (not a) ≡ a
+not_not true = refl
+not_not false = refl
 
 pub and_left : (a b : Bool) → a && b ≡ true → a ≡ true
 and_left true b e = refl

@@ -1,7 +1,5 @@
 -- "first such word": what a rule looks at, in order, each with its place and whether it keeps the rule.
-use Rattle.std.specs.Prelude.{ℕ, suc, ◌+◌, Bool, true, false, cond, List, [], ◌∷◌, ◌++◌, ◌≡◌}
-use Rattle.ground.specs.declared.Found.{Found}
-use Rattle.ground.specs.declared.Found.TheVariants as found
+use Rattle.std.specs.Prelude.{ℕ, suc, ◌+◌, Bool, true, false, cond, List, [], ◌∷◌, ◌++◌, ◌≡◌, Option, Some, None}
 use Rattle.ground.specs.Each.{every}
 
 -- a word or record that a rule looks at
@@ -20,9 +18,9 @@ judged_words at i [] = []
 judged_words at i (good ∷ rest) = judged (at + i) good ∷ judged_words at (suc i) rest
 
 -- the place of the first that breaks the rule
-unfoldable pub first_bad : List Judged → Found
-first_bad [] = found.None
-first_bad (j ∷ rest) = cond j.good (first_bad rest) (found.At j.place)
+unfoldable pub first_bad : List Judged → Option ℕ
+first_bad [] = None
+first_bad (j ∷ rest) = cond j.good (first_bad rest) (Some j.place)
 
 -- What stands at a place breaks the rule, and nothing before it does.
 pub record FirstBad (looked : List Judged) (place : ℕ) : Type 0 where

@@ -1,34 +1,8 @@
-// What every layer shares: a word as an index, the lesser and the greater of two, and a place that was found.
+// What every layer shares: a word as an index, the lesser and the greater of two, one number less another, and the first that is found.
 #![tactic(auto)]
 
-ghost use Rattle.std.specs.Prelude.{◌≡◌, not, ◌-◌, ◌<◌, min, max};
-ghost use Rattle.ground.specs.First.{or_else, found_if};
-
-// A place where something was found, or that nothing was.
-#[derive(Clone, Copy)]
-pub enum Found {
-    // nothing was found
-    None,
-    // the place
-    At(usize),
-}
-
-// The first of the two that is there.
-pub fn or_else(one: Found, other: Found) -> Found
-    ensures { result ≡ or_else one other }
-{
-    match one {
-        Found::At(place) => one,
-        Found::None => other,
-    }
-}
-
-// What is not good is found at its place.
-pub fn unless(good: bool, place: usize) -> Found
-    ensures { result ≡ found_if (not good) place }
-{
-    if good { Found::None } else { Found::At(place) }
-}
+ghost use Rattle.std.specs.Prelude.{◌≡◌, ◌-◌, ◌<◌, ℕ, min, max, Option};
+ghost use Rattle.ground.specs.First.{first_from, Finds};
 
 // A 32-bit field as an index: sums of such are made in 64 bits, so that none wraps.
 pub fn number(x: u32) -> usize
@@ -54,4 +28,17 @@ pub fn minus(a: usize, by: usize) -> usize
     ensures { result ≡ a - by }
 {
     if by <= a { a - by } else { 0 }
+}
+
+// What this looker finds at the first of so many numbers, from 0 on, at which it finds anything.
+pub fn first_found<F: Fn(usize) -> Option<usize>>(count: usize, look: F) -> Option<usize>
+    requires { (k : ℕ) → k < count → F.pre look k }
+    ensures { (found : ℕ → Option ℕ) → Finds (F.post look) count found → result ≡ first_from found 0 count }
+{
+    for k in 0..count {
+        if let Some(place) = look(k) {
+            return Some(place);
+        }
+    }
+    None
 }

@@ -4,7 +4,7 @@ use Prim.Native.Nat.{ℕ, suc, ◌+◌}
 use mathlib.Core.Bool.{Bool, true, false}
 use mathlib.Core.List.{List, [], ◌∷◌}
 use mathlib.Core.Path.{◌≡◌, refl}
-use Rattle.ground.specs.declared.Found.TheVariants as found
+use Rattle.std.specs.Prelude.{Some, None}
 use Rattle.ground.specs.Judged.{judged_words, first_bad}
 
 -- every rule of a list holds
@@ -12,16 +12,16 @@ abbrev pub Kept : List Bool → Type 0
 Kept [] = Unit {0}
 Kept (good ∷ rest) = (good ≡ true) × Kept rest
 
-never : {P : Type 0} (p : ℕ) → found.At p ≡ found.None → P
+never : {P : Type 0} (p : ℕ) → Some p ≡ None → P
 never p e = let z : ◌≡◌ {A = ℕ} 0 1 = cc in absurd (omega arith)
 
-pub none_kept : (at i : ℕ) (rules : List Bool) → first_bad (judged_words at i rules) ≡ found.None → Kept rules
+pub none_kept : (at i : ℕ) (rules : List Bool) → first_bad (judged_words at i rules) ≡ None → Kept rules
 unfolding judged_words first_bad
 none_kept at i [] h = tt
 none_kept at i (true ∷ rest) h = (refl, none_kept at (suc i) rest h)
 none_kept at i (false ∷ rest) h = never (at + i) h
 
-pub kept_none : (at i : ℕ) (rules : List Bool) → Kept rules → first_bad (judged_words at i rules) ≡ found.None
+pub kept_none : (at i : ℕ) (rules : List Bool) → Kept rules → first_bad (judged_words at i rules) ≡ None
 unfolding judged_words first_bad
 kept_none at i [] h = refl
 kept_none at i (good ∷ rest) h = rw h.0 (kept_none at (suc i) rest h.1)

@@ -1,18 +1,16 @@
 -- For the proofs alone: words looked at in turn, with what was found before them.
-use Rattle.std.specs.Prelude.{ℕ, suc, ◌+◌, Bool, true, false, List, [], ◌∷◌}
-use Rattle.ground.specs.First.{or_else}
-use Rattle.ground.specs.declared.Found.{Found}
-use Rattle.ground.specs.declared.Found.TheVariants as found
+use Rattle.std.specs.Prelude.{ℕ, suc, ◌+◌, Bool, true, false, List, [], ◌∷◌, Option, Some}
+use Rattle.std.specs.Option.{option_or}
 use Rattle.layout.specs.Tables.{word}
 use Rattle.header.specs.Words.{at_most}
 
 -- what was found before, or the place of a word that is not good
-abbrev pub or_unless : Found → Bool → ℕ → Found
+abbrev pub or_unless : Option ℕ → Bool → ℕ → Option ℕ
 or_unless before true place = before
-or_unless before false place = or_else before (found.At place)
+or_unless before false place = option_or before (Some place)
 
 -- the same for the words of the record at `at`, from word i on
-unfoldable pub or_words : Found → ℕ → ℕ → List Bool → Found
+unfoldable pub or_words : Option ℕ → ℕ → ℕ → List Bool → Option ℕ
 or_words before at i [] = before
 or_words before at i (good ∷ rest) = or_words (or_unless before good (at + i)) at (suc i) rest
 

@@ -1,7 +1,7 @@
 // Code 2, the header's words; and how words are looked at in turn.
 #![tactic(auto)]
 
-ghost use Rattle.std.specs.Prelude.{◌≡◌, ◌+◌, ◌≤◌, ◌<◌, length};
+ghost use Rattle.std.specs.Prelude.{◌≡◌, ◌+◌, ◌≤◌, ◌<◌, length, None};
 ghost use Rattle.ground.specs.Judged.{first_bad};
 ghost use Rattle.layout.specs.Layout.{header_nodes, header_size};
 ghost use Rattle.layout.specs.Tables.{word};
@@ -9,22 +9,17 @@ ghost use Rattle.header.specs.Words.{at_most, clear};
 ghost use Rattle.header.specs.Header.{header_judged, size_rules, count_rules};
 ghost use Rattle.header.specs.InTurn.{or_unless, or_words, words_at, four_rules};
 
-use ground::{Found, or_else};
 use layout::word_inside;
 
 // What was found before, or the place of a word that is not good.
-pub fn or_unless(before: Found, good: bool, place: usize) -> Found
+pub fn or_unless(before: Option<usize>, good: bool, place: usize) -> Option<usize>
     ensures { result ≡ or_unless before good place }
 {
-    if good {
-        before
-    } else {
-        or_else(before, Found::At(place))
-    }
+    if good { before } else { before.or(Some(place)) }
 }
 
 // A number that is over its limit.
-pub fn at_most(before: Found, image: &[u32], place: usize, limit: u32) -> Found
+pub fn at_most(before: Option<usize>, image: &[u32], place: usize, limit: u32) -> Option<usize>
     requires { place < length image.now }
     ensures { result ≡ or_unless before (at_most (word image.now place) limit) place }
 {
@@ -32,27 +27,27 @@ pub fn at_most(before: Found, image: &[u32], place: usize, limit: u32) -> Found
 }
 
 // Four numbers in a row with one limit.
-pub fn four_at_most(before: Found, image: &[u32], at: usize, limit: u32) -> Found
+pub fn four_at_most(before: Option<usize>, image: &[u32], at: usize, limit: u32) -> Option<usize>
     requires { at + 4 ≤ length image.now }
     ensures { result ≡ or_words before at 0 (four_rules (words_at image.now at) limit) }
 {
     if limit < word_inside(image, at) {
-        return or_else(before, Found::At(at));
+        return before.or(Some(at));
     }
     if limit < word_inside(image, at + 1) {
-        return or_else(before, Found::At(at + 1));
+        return before.or(Some(at + 1));
     }
     if limit < word_inside(image, at + 2) {
-        return or_else(before, Found::At(at + 2));
+        return before.or(Some(at + 2));
     }
     if limit < word_inside(image, at + 3) {
-        return or_else(before, Found::At(at + 3));
+        return before.or(Some(at + 3));
     }
     before
 }
 
 // Flags of which a spare bit, one below the lowest in use, is set.
-pub fn clear(before: Found, image: &[u32], place: usize, lowest: u32) -> Found
+pub fn clear(before: Option<usize>, image: &[u32], place: usize, lowest: u32) -> Option<usize>
     requires { (place < length image.now) × (0 < lowest) }
     ensures { result ≡ or_unless before (clear (word image.now place) lowest) place }
 {
@@ -60,18 +55,18 @@ pub fn clear(before: Found, image: &[u32], place: usize, lowest: u32) -> Found
 }
 
 // Width, height, run capacity and flags.
-fn bad_sizes(image: &[u32]) -> Found
+fn bad_sizes(image: &[u32]) -> Option<usize>
     requires { header_size ≤ length image.now }
-    ensures { result ≡ or_words Found.None 0 0 (size_rules image.now) }
+    ensures { result ≡ or_words None 0 0 (size_rules image.now) }
 {
-    let width = at_most(Found::None, image, layout::HEADER_WIDTH, layout::MAX_WIDTH);
+    let width = at_most(None, image, layout::HEADER_WIDTH, layout::MAX_WIDTH);
     let height = at_most(width, image, layout::HEADER_HEIGHT, layout::MAX_HEIGHT);
     let runs = at_most(height, image, layout::HEADER_RUNS, layout::MAX_RUNS);
     clear(runs, image, layout::HEADER_FLAGS, layout::HEADER_SPARE)
 }
 
 // The counts of the tables.
-fn bad_counts(before: Found, image: &[u32]) -> Found
+fn bad_counts(before: Option<usize>, image: &[u32]) -> Option<usize>
     requires { header_size ≤ length image.now }
     ensures { result ≡ or_words before 0 header_nodes (count_rules image.now) }
 {
@@ -83,7 +78,7 @@ fn bad_counts(before: Found, image: &[u32]) -> Found
 }
 
 // Code 2: "header number over its limit or spare bit set".
-pub fn bad_header(image: &[u32]) -> Found
+pub fn bad_header(image: &[u32]) -> Option<usize>
     requires { header_size ≤ length image.now }
     ensures { result ≡ first_bad (header_judged image.now) }
 {

@@ -37,10 +37,8 @@ pub fn spell(words: &[u32], text: &mut [u8]) -> usize
     ensures text_after { text.new ≡ spelled (take (words_with_room words.now text.old) words.now) ++ drop (9 * words_with_room words.now text.old) text.old }
 {
     let count = ground::min(words.len(), text.len() / WORD_BYTES);
-    let mut k: usize = 0;
-    while k < count {
+    for k in 0..count {
         spell_word(words[k], text, WORD_BYTES * k);
-        k += 1;
     }
     WORD_BYTES * count
 }
@@ -72,10 +70,8 @@ pub fn spell_bytes(bytes: &[u8], text: &mut [u8]) -> usize
     ensures text_after { text.new ≡ spelled_bytes (take (bytes_with_room bytes.now text.old) bytes.now) ++ drop (3 * bytes_with_room bytes.now text.old) text.old }
 {
     let count = ground::min(bytes.len(), text.len() / BYTE_BYTES);
-    let mut k: usize = 0;
-    while k < count {
+    for k in 0..count {
         spell_byte(bytes[k], text, BYTE_BYTES * k);
-        k += 1;
     }
     BYTE_BYTES * count
 }

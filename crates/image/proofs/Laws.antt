@@ -1,9 +1,10 @@
 -- Laws over plain values, which the functions' proofs and the theorems cite.
+use Rattle.std.specs.Prelude.{Option}
 use Prim.Native.Nat.{ℕ, ◌+◌, ◌*◌, ◌-◌, ◌≤◌, ◌<◌}
 use native.Mathlib.Nat.{add_assoc, add-mul}
 use native.Mathlib.Omega.{arith}
 use mathlib.Core.Path.{◌≡◌, refl}
-use mathlib.Core.Bool.{Bool, true, false, and-false}
+use mathlib.Core.Bool.{Bool, and-false}
 use mathlib.Core.List.{List}
 use lib.ListN.{length, take, drop}
 use borrow.Author.Tests.{le-leb, lt-leb}
@@ -16,17 +17,14 @@ use Rattle.cell.specs.declared.Weight.{Weight}
 use Rattle.cell.specs.OneCell.{weight_of}
 use Rattle.image.specs.declared.LabelPolicy.{LabelPolicy}
 use Rattle.image.specs.declared.Header.{Header}
-use Rattle.image.specs.declared.Four.{Four}
 use Rattle.image.specs.declared.Span.{Span}
 use Rattle.image.specs.declared.NodeKind.{NodeKind}
-use Rattle.image.specs.declared.SelfLoop.{SelfLoop}
+use Rattle.image.specs.declared.Point.{Point}
 use Rattle.image.specs.declared.Node.{Node}
 use Rattle.image.specs.declared.Path.{Path}
 use Rattle.image.specs.declared.Path.TheVariants.{Direct, Corner, SideChannel, MultiSegment, Orthogonal, Spline}
 use Rattle.image.specs.declared.FlowAxis.{FlowAxis}
 use Rattle.image.specs.declared.Style.{Style}
-use Rattle.image.specs.declared.EdgeLabel.{EdgeLabel}
-use Rattle.image.specs.declared.EdgeLabel.TheVariants as label
 use Rattle.image.specs.declared.Edge.{Edge}
 use Rattle.image.specs.declared.LabelPosition.{LabelPosition}
 use Rattle.image.specs.declared.Subgraph.{Subgraph}
@@ -86,16 +84,6 @@ no_points (MultiSegment span offset) k o = absurd (k span offset refl)
 no_points (Orthogonal span) k o = absurd (o span refl)
 no_points Spline k o = refl
 
--- the label of an edge, by the flag that says whether it has one
-module _ (flags : ℕ) (span : Span) (test : Bool) (e : test ≡ flag flags label_present) where
-  pub label_present_lem : test ≡ true → label.Present span ≡ edge_label_of (flag flags label_present) span
-  unfolding edge_label_of
-  label_present_lem h = rw (← e, h)
-
-  pub label_absent : test ≡ false → label.None ≡ edge_label_of (flag flags label_present) span
-  unfolding edge_label_of
-  label_absent h = rw (← e, h)
-
 -- the header and each record, of the words and the parts by which it is read
 
 pub four_of :
@@ -104,7 +92,7 @@ pub four_of :
     second ≡ field image table k (from + 1) →
     third ≡ field image table k (from + 2) →
     fourth ≡ field image table k (from + 3) →
-    record { first = first; second = second; third = third; fourth = fourth } ≡ four_at image table k from
+    (first, second, third, fourth) ≡ four_at image table k from
 unfolding four_at
 four_of image table k from first second third fourth e1 e2 e3 e4 = rw (e1, e2, e3, e4)
 
@@ -112,12 +100,7 @@ four_of image table k from first second third fourth e1 e2 e3 e4 = rw (e1, e2, e
 pub four_there :
     (image : List ℕ) (table : Table) (k from start : ℕ) →
     start ≡ record_at table k →
-    record {
-      first = word image (start + from);
-      second = word image (start + from + 1);
-      third = word image (start + from + 2);
-      fourth = word image (start + from + 3);
-    }
+    (word image (start + from), word image (start + from + 1), word image (start + from + 2), word image (start + from + 3))
     ≡ four_at image table k from
 unfolding four_at
 four_there image table k from start e =
@@ -125,14 +108,14 @@ four_there image table k from start e =
     rw (e, add_assoc at from 1, add_assoc at from 2, add_assoc at from 3)
 
 pub header_of_lem :
-    (image : List ℕ) (words : Four) (policy : LabelPolicy) (dummies : Bool) →
+    (image : List ℕ) (words : ℕ × ℕ × ℕ × ℕ) (policy : LabelPolicy) (dummies : Bool) →
     words ≡ four_at image header 0 0 →
-    dummies ≡ flag words.fourth show_dummies →
-    policy ≡ policy_of (flag words.fourth avoid_node_rows) →
+    dummies ≡ flag words.3 show_dummies →
+    policy ≡ policy_of (flag words.3 avoid_node_rows) →
     ◌≡◌ {A = Header} (record {
-      width = words.first;
-      height = words.second;
-      run_capacity = words.third;
+      width = words.0;
+      height = words.1;
+      run_capacity = words.2;
       policy = policy;
       show_dummies = dummies;
     }) (header_of image)
@@ -153,37 +136,38 @@ style_is flags number axis back from to weight n e p q r t = rw (e, n, p, q, r, 
 
 module _ (image : List ℕ) (table : Table) (k : ℕ) where
   pub node_of :
-      (place rest : Four) (loop_y_lem : ℕ) (kind : NodeKind) (loop : SelfLoop) →
-      kind ≡ node_kind_of (bits rest.third node_kind_step node_kinds) →
-      loop ≡ self_loop_of (flag rest.third self_loop) rest.fourth loop_y_lem →
+      (place rest : ℕ × ℕ × ℕ × ℕ) (loop_y_lem number : ℕ) (kind : NodeKind) (loop : Option Point) →
+      kind ≡ node_kind_of number →
+      number ≡ bits rest.2 node_kind_step node_kinds →
+      loop ≡ self_loop_of (flag rest.2 self_loop) rest.3 loop_y_lem →
       place ≡ four_at image table k 0 →
       rest ≡ four_at image table k 4 →
       loop_y_lem ≡ field image table k 8 →
       ◌≡◌ {A = Node} (record {
-        x = place.first;
-        y = place.second;
-        width = place.third;
-        height = place.fourth;
-        label = record { start = rest.first; count = rest.second };
+        x = place.0;
+        y = place.1;
+        width = place.2;
+        height = place.3;
+        label = record { start = rest.0; count = rest.1 };
         kind = kind;
         self_loop = loop;
       }) (node_at image table k)
   unfolding node_at four_at
-  node_of place rest loop_y_lem kind loop n l p r y = rw (l, n, p, r, y)
+  node_of place rest loop_y_lem number kind loop n b l p r y = rw (l, n, b, p, r, y)
 
   pub edge_of :
-      (ends way look : Four) (path : Path) (style : Style) (label : EdgeLabel) →
-      label ≡ edge_label_of (flag way.first label_present) (record { start = look.first; count = look.second }) →
-      path ≡ path_of (bits way.first path_step paths) way.second way.third way.fourth →
-      style ≡ style_of way.first →
+      (ends way look : ℕ × ℕ × ℕ × ℕ) (path : Path) (style : Style) (label : Option Span) →
+      label ≡ edge_label_of (flag way.0 label_present) (record { start = look.0; count = look.1 }) →
+      path ≡ path_of (bits way.0 path_step paths) way.1 way.2 way.3 →
+      style ≡ style_of way.0 →
       ends ≡ four_at image table k 0 →
       way ≡ four_at image table k 4 →
       look ≡ four_at image table k 8 →
       ◌≡◌ {A = Edge} (record {
-        from_x = ends.first;
-        from_y = ends.second;
-        to_x = ends.third;
-        to_y = ends.fourth;
+        from_x = ends.0;
+        from_y = ends.1;
+        to_x = ends.2;
+        to_y = ends.3;
         path = path;
         flow_axis = style.flow_axis;
         reversed = style.reversed;
@@ -191,41 +175,41 @@ module _ (image : List ℕ) (table : Table) (k : ℕ) where
         end_marker = style.end_marker;
         weight = style.weight;
         label = label;
-        colour = look.third;
-        label_colour = look.fourth;
+        colour = look.2;
+        label_colour = look.3;
       }) (edge_at image table k)
   unfolding edge_at four_at style_of
   edge_of ends way look path style label l p s e w o = rw (l, p, s, e, w, o)
 
   pub subgraph_of :
-      (place rest : Four) (number : ℕ) (border : Weight) (position : LabelPosition) →
-      number ≡ bits rest.third border_step borders →
+      (place rest : ℕ × ℕ × ℕ × ℕ) (number : ℕ) (border : Weight) (position : LabelPosition) →
+      number ≡ bits rest.2 border_step borders →
       border ≡ weight_of number →
-      position ≡ position_of (flag rest.third inside_bottom) →
+      position ≡ position_of (flag rest.2 inside_bottom) →
       place ≡ four_at image table k 0 →
       rest ≡ four_at image table k 4 →
       ◌≡◌ {A = Subgraph} (record {
-        x = place.first;
-        y = place.second;
-        width = place.third;
-        height = place.fourth;
-        label = record { start = rest.first; count = rest.second };
+        x = place.0;
+        y = place.1;
+        width = place.2;
+        height = place.3;
+        label = record { start = rest.0; count = rest.1 };
         border = border;
         position = position;
-        colour = rest.fourth;
+        colour = rest.3;
       }) (subgraph_at image table k)
   unfolding subgraph_at four_at
   subgraph_of place rest number border position n b q p r = rw (q, b, n, p, r)
 
   pub placed_label_of :
-      (words : Four) (fits row : Bool) →
+      (words : ℕ × ℕ × ℕ × ℕ) (fits row : Bool) →
       words ≡ four_at image table k 0 →
-      row ≡ flag words.fourth row_has_node →
-      fits ≡ flag words.fourth placeable →
+      row ≡ flag words.3 row_has_node →
+      fits ≡ flag words.3 placeable →
       ◌≡◌ {A = PlacedLabel} (record {
-        edge = words.first;
-        x = words.second;
-        y = words.third;
+        edge = words.0;
+        x = words.1;
+        y = words.2;
         placeable = fits;
         row_has_node = row;
       }) (placed_label_at image table k)
@@ -233,14 +217,14 @@ module _ (image : List ℕ) (table : Table) (k : ℕ) where
   placed_label_of words fits row w r f = rw (r, f, w)
 
   pub element_of :
-      (words : Four) (kind : ElementKind) →
-      kind ≡ element_kind_of words.first →
+      (words : ℕ × ℕ × ℕ × ℕ) (kind : ElementKind) →
+      kind ≡ element_kind_of words.0 →
       words ≡ four_at image table k 0 →
       ◌≡◌ {A = Element} (record {
         kind = kind;
-        index = words.second;
-        first_row = words.third;
-        last_row = words.fourth;
+        index = words.1;
+        first_row = words.2;
+        last_row = words.3;
       }) (element_at image table k)
   unfolding element_at four_at
   element_of words kind e w = rw (e, w)

@@ -4,20 +4,15 @@ use Rattle.cell.specs.OneCell.{weight_of}
 use Rattle.layout.specs.Layout.{flow_x, reversed, start_marker, end_marker, weight_step, weights}
 use Rattle.layout.specs.declared.Table.{Table}
 use Rattle.layout.specs.Tables.{bits, flag, field}
-use Rattle.image.specs.declared.Four.{Four}
 use Rattle.image.specs.declared.Style.{Style}
 use Rattle.image.specs.declared.Span.{Span}
 use Rattle.image.specs.declared.Bounds.{Bounds}
 use Rattle.image.specs.Records.{axis_of}
 use Rattle.image.specs.Spans.{span_words}
 
-unfoldable pub four_at : List ℕ → Table → ℕ → ℕ → Four
-four_at image table k from = record {
-  first = field image table k from;
-  second = field image table k (from + 1);
-  third = field image table k (from + 2);
-  fourth = field image table k (from + 3);
-}
+unfoldable pub four_at : List ℕ → Table → ℕ → ℕ → ℕ × ℕ × ℕ × ℕ
+four_at image table k from =
+    (field image table k from, field image table k (from + 1), field image table k (from + 2), field image table k (from + 3))
 
 unfoldable pub style_of : ℕ → Style
 style_of flags = record {

@@ -1,5 +1,6 @@
 -- The header and each record by its fields. Every reading is of any words: a word past the end reads 0.
-use Rattle.std.specs.Prelude.{ℕ, Bool, cond, List, eqb}
+use Rattle.std.specs.Prelude.{ℕ, Bool, cond, List, eqb, Option}
+use Rattle.std.specs.Bool.{then_some}
 use Rattle.cell.specs.OneCell.{weight_of}
 use Rattle.layout.specs.declared.Table.{Table}
 use Rattle.layout.specs.declared.Tables.{Tables}
@@ -21,15 +22,12 @@ use Rattle.image.specs.declared.Header.{Header}
 use Rattle.image.specs.declared.Span.{Span}
 use Rattle.image.specs.declared.NodeKind.{NodeKind}
 use Rattle.image.specs.declared.NodeKind.TheVariants.{Simple, Boxed, Blank, Dummy}
-use Rattle.image.specs.declared.SelfLoop.{SelfLoop}
-use Rattle.image.specs.declared.SelfLoop.TheVariants as loop
+use Rattle.image.specs.declared.Point.{Point}
 use Rattle.image.specs.declared.Node.{Node}
 use Rattle.image.specs.declared.Path.{Path}
 use Rattle.image.specs.declared.Path.TheVariants.{Direct, Corner, SideChannel, MultiSegment, Orthogonal, Spline}
 use Rattle.image.specs.declared.FlowAxis.{FlowAxis}
 use Rattle.image.specs.declared.FlowAxis.TheVariants.{Y, X}
-use Rattle.image.specs.declared.EdgeLabel.{EdgeLabel}
-use Rattle.image.specs.declared.EdgeLabel.TheVariants as label
 use Rattle.image.specs.declared.Edge.{Edge}
 use Rattle.image.specs.declared.LabelPosition.{LabelPosition}
 use Rattle.image.specs.declared.LabelPosition.TheVariants.{InsideTop, InsideBottom}
@@ -63,8 +61,8 @@ span_at image table k start count = record { start = field image table k start; 
 unfoldable pub node_kind_of : ℕ → NodeKind
 node_kind_of n = cond (eqb n 0) Simple (cond (eqb n 1) Boxed (cond (eqb n 2) Blank Dummy))
 
-unfoldable pub self_loop_of : Bool → ℕ → ℕ → SelfLoop
-self_loop_of present x y = cond present (loop.At x y) loop.None
+unfoldable pub self_loop_of : Bool → ℕ → ℕ → Option Point
+self_loop_of present x y = then_some present (record { x = x; y = y })
 
 unfoldable pub node_at : List ℕ → Table → ℕ → Node
 node_at image nodes k = record {
@@ -94,8 +92,8 @@ abbrev pub axis_of : Bool → FlowAxis
 axis_of across = cond across X Y
 
 -- "label present 1 (else start and count 0)"
-unfoldable pub edge_label_of : Bool → Span → EdgeLabel
-edge_label_of present span = cond present (label.Present span) label.None
+unfoldable pub edge_label_of : Bool → Span → Option Span
+edge_label_of present span = then_some present span
 
 -- "edge, 12: from x, from y, to x, to y, flags, a, b, c, label start, label count, colour, label colour. Flags: path 3 bits, flow axis 1 (0 Y, 1 X),
 -- reversed 1, start marker 1, end marker 1, weight 2 (1 Dashed, 2 Light, 3 Double), label present 1"

@@ -39,40 +39,22 @@ pub struct Header {
     pub show_dummies: bool,
 }
 
-// Four words of a record that follow one another.
-#[derive(Clone, Copy)]
-struct Four {
-    // the word at the offset
-    first: u32,
-    // the next
-    second: u32,
-    // the one after that
-    third: u32,
-    // the last of the four
-    fourth: u32,
-}
-
 // The four words of record k from an offset on.
-fn four_at(image: &[u32], table: Table, k: usize, from: usize) -> Four
+fn four_at(image: &[u32], table: Table, k: usize, from: usize) -> (u32, u32, u32, u32)
     requires { Small table × (k < 4294967296) × (from ≤ 12) }
     ensures { result ≡ four_at image.now table k from }
 {
     let at = layout::record_at(table, k) + from;
     // nearly always all four are there, so that is asked first
     if at + 3 < image.len() {
-        return Four {
-            first: image[at],
-            second: image[at + 1],
-            third: image[at + 2],
-            fourth: image[at + 3],
-        };
+        return (image[at], image[at + 1], image[at + 2], image[at + 3]);
     }
-    Four {
-        first: field(image, table, k, from),
-        second: field(image, table, k, from + 1),
-        third: field(image, table, k, from + 2),
-        fourth: field(image, table, k, from + 3),
-    }
+    (
+        field(image, table, k, from),
+        field(image, table, k, from + 1),
+        field(image, table, k, from + 2),
+        field(image, table, k, from + 3),
+    )
 }
 
 fn policy_of(flags: u32) -> LabelPolicy
@@ -93,14 +75,13 @@ pub fn header_of(image: &[u32]) -> Header
         count: 1,
         size: layout::HEADER_SIZE,
     };
-    // width, height, run capacity, flags
-    let words = four_at(image, header, 0, layout::HEADER_WIDTH);
+    let (width, height, run_capacity, flags) = four_at(image, header, 0, layout::HEADER_WIDTH);
     Header {
-        width: words.first,
-        height: words.second,
-        run_capacity: words.third,
-        policy: policy_of(words.fourth),
-        show_dummies: flag(words.fourth, layout::SHOW_DUMMIES),
+        width,
+        height,
+        run_capacity,
+        policy: policy_of(flags),
+        show_dummies: flag(flags, layout::SHOW_DUMMIES),
     }
 }
 
@@ -147,9 +128,7 @@ pub fn span_words(image: &[u32], table: Table, span: Span) -> &[u32]
     ensures { result.now ≡ span_words image.now table span }
 {
     let bounds = span_bounds(table, span, image.len());
-    let first = bounds.first;
-    let end = bounds.end;
-    &image[first..end]
+    &image[bounds.first..bounds.end]
 }
 
 // How a node looks.
@@ -165,13 +144,13 @@ pub enum NodeKind {
     Dummy,
 }
 
-// Whether a node has an edge to itself.
+// A cell of the sheet.
 #[derive(Clone, Copy)]
-pub enum SelfLoop {
-    // it has none
-    None,
-    // the cell of its marker
-    At { x: u32, y: u32 },
+pub struct Point {
+    // its column
+    pub x: u32,
+    // its row
+    pub y: u32,
 }
 
 // A node of the diagram: a gear stage.
@@ -189,51 +168,46 @@ pub struct Node {
     pub label: Span,
     // how it looks
     pub kind: NodeKind,
-    // its edge to itself
-    pub self_loop: SelfLoop,
+    // the marker of its edge to itself, where it has one
+    pub self_loop: Option<Point>,
 }
 
-fn node_kind_of(flags: u32) -> NodeKind
-    ensures { result ≡ node_kind_of (bits flags node_kind_step node_kinds) }
-{
-    match bits(flags, layout::NODE_KIND_STEP, layout::NODE_KINDS) {
-        0 => NodeKind::Simple,
-        1 => NodeKind::Boxed,
-        2 => NodeKind::Blank,
-        _ => NodeKind::Dummy,
+// A number that no other kind has is a dummy's.
+impl From<u32> for NodeKind {
+    ghost from_gives = { λ number kind. kind ≡ node_kind_of number };
+
+    fn from(number: u32) -> NodeKind {
+        match number {
+            0 => NodeKind::Simple,
+            1 => NodeKind::Boxed,
+            2 => NodeKind::Blank,
+            _ => NodeKind::Dummy,
+        }
     }
 }
 
-fn self_loop_of(flags: u32, x: u32, y: u32) -> SelfLoop
+fn self_loop_of(flags: u32, x: u32, y: u32) -> Option<Point>
     ensures { result ≡ self_loop_of (flag flags self_loop) x y }
 {
-    if flag(flags, layout::SELF_LOOP) {
-        SelfLoop::At { x: x, y: y }
-    } else {
-        SelfLoop::None
-    }
+    flag(flags, layout::SELF_LOOP).then_some(Point { x: x, y: y })
 }
 
 pub fn node_at(image: &[u32], nodes: Table, k: usize) -> Node
     requires { Small nodes × (k < 4294967296) }
     ensures { result ≡ node_at image.now nodes k }
 {
-    // x, y, width, height
-    let place = four_at(image, nodes, k, layout::NODE_X);
-    // label start, label count, flags, loop x
-    let rest = four_at(image, nodes, k, layout::NODE_LABEL_START);
+    let (x, y, width, height) = four_at(image, nodes, k, layout::NODE_X);
+    let (start, count, flags, loop_x) = four_at(image, nodes, k, layout::NODE_LABEL_START);
     let loop_y = field(image, nodes, k, layout::NODE_LOOP_Y);
+    let kind = bits(flags, layout::NODE_KIND_STEP, layout::NODE_KINDS);
     Node {
-        x: place.first,
-        y: place.second,
-        width: place.third,
-        height: place.fourth,
-        label: Span {
-            start: rest.first,
-            count: rest.second,
-        },
-        kind: node_kind_of(rest.third),
-        self_loop: self_loop_of(rest.third, rest.fourth, loop_y),
+        x,
+        y,
+        width,
+        height,
+        label: Span { start, count },
+        kind: NodeKind::from(kind),
+        self_loop: self_loop_of(flags, loop_x, loop_y),
     }
 }
 
@@ -275,15 +249,6 @@ pub enum FlowAxis {
     X,
 }
 
-// An edge's label, which a placed label shows.
-#[derive(Clone, Copy)]
-pub enum EdgeLabel {
-    // it has none
-    None,
-    // its glyphs
-    Present(Span),
-}
-
 // An edge of the diagram.
 #[derive(Clone, Copy)]
 pub struct Edge {
@@ -307,8 +272,8 @@ pub struct Edge {
     pub end_marker: bool,
     // the weight of its strokes
     pub weight: Weight,
-    // what its placed labels show
-    pub label: EdgeLabel,
+    // the glyphs of its label, which its placed labels show, where it has one
+    pub label: Option<Span>,
     // of its strokes and markers
     pub colour: u32,
     // of its placed labels
@@ -348,7 +313,7 @@ fn style_of(flags: u32) -> Style
         reversed: flag(flags, layout::REVERSED),
         start_marker: flag(flags, layout::START_MARKER),
         end_marker: flag(flags, layout::END_MARKER),
-        weight: Weight::from_bits(bits(flags, layout::WEIGHT_STEP, layout::WEIGHTS)),
+        weight: Weight::from(bits(flags, layout::WEIGHT_STEP, layout::WEIGHTS)),
     }
 }
 
@@ -373,46 +338,34 @@ fn path_of(flags: u32, a: u32, b: u32, c: u32) -> Path
     }
 }
 
-fn edge_label_of(flags: u32, start: u32, count: u32) -> EdgeLabel
+fn edge_label_of(flags: u32, start: u32, count: u32) -> Option<Span>
     ensures { result ≡ edge_label_of (flag flags label_present) (record { start = start; count = count }) }
 {
-    if flag(flags, layout::LABEL_PRESENT) {
-        EdgeLabel::Present(Span {
-            start: start,
-            count: count,
-        })
-    } else {
-        EdgeLabel::None
-    }
+    flag(flags, layout::LABEL_PRESENT).then_some(Span { start, count })
 }
 
 pub fn edge_at(image: &[u32], edges: Table, k: usize) -> Edge
     requires { Small edges × (k < 4294967296) }
     ensures { result ≡ edge_at image.now edges k }
 {
-    // from x, from y, to x, to y
-    let ends = four_at(image, edges, k, layout::EDGE_FROM_X);
-    // flags, a, b, c
-    let way = four_at(image, edges, k, layout::EDGE_FLAGS);
-    // label start, label count, colour, label colour
-    let look = four_at(image, edges, k, layout::EDGE_LABEL_START);
-    let style = style_of(way.first);
-    let flow_axis = style.flow_axis;
-    let weight = style.weight;
+    let (from_x, from_y, to_x, to_y) = four_at(image, edges, k, layout::EDGE_FROM_X);
+    let (flags, a, b, c) = four_at(image, edges, k, layout::EDGE_FLAGS);
+    let (start, count, colour, label_colour) = four_at(image, edges, k, layout::EDGE_LABEL_START);
+    let style = style_of(flags);
     Edge {
-        from_x: ends.first,
-        from_y: ends.second,
-        to_x: ends.third,
-        to_y: ends.fourth,
-        path: path_of(way.first, way.second, way.third, way.fourth),
-        flow_axis: flow_axis,
+        from_x,
+        from_y,
+        to_x,
+        to_y,
+        path: path_of(flags, a, b, c),
+        flow_axis: style.flow_axis,
         reversed: style.reversed,
         start_marker: style.start_marker,
         end_marker: style.end_marker,
-        weight: weight,
-        label: edge_label_of(way.first, look.first, look.second),
-        colour: look.third,
-        label_colour: look.fourth,
+        weight: style.weight,
+        label: edge_label_of(flags, start, count),
+        colour,
+        label_colour,
     }
 }
 
@@ -460,22 +413,17 @@ pub fn subgraph_at(image: &[u32], subgraphs: Table, k: usize) -> Subgraph
     requires { Small subgraphs × (k < 4294967296) }
     ensures { result ≡ subgraph_at image.now subgraphs k }
 {
-    // x, y, width, height
-    let place = four_at(image, subgraphs, k, layout::SUBGRAPH_X);
-    // label start, label count, flags, colour
-    let rest = four_at(image, subgraphs, k, layout::SUBGRAPH_LABEL_START);
+    let (x, y, width, height) = four_at(image, subgraphs, k, layout::SUBGRAPH_X);
+    let (start, count, flags, colour) = four_at(image, subgraphs, k, layout::SUBGRAPH_LABEL_START);
     Subgraph {
-        x: place.first,
-        y: place.second,
-        width: place.third,
-        height: place.fourth,
-        label: Span {
-            start: rest.first,
-            count: rest.second,
-        },
-        border: Weight::from_bits(bits(rest.third, layout::BORDER_STEP, layout::BORDERS)),
-        position: position_of(rest.third),
-        colour: rest.fourth,
+        x,
+        y,
+        width,
+        height,
+        label: Span { start, count },
+        border: Weight::from(bits(flags, layout::BORDER_STEP, layout::BORDERS)),
+        position: position_of(flags),
+        colour,
     }
 }
 
@@ -498,14 +446,13 @@ pub fn placed_label_at(image: &[u32], labels: Table, k: usize) -> PlacedLabel
     requires { Small labels × (k < 4294967296) }
     ensures { result ≡ placed_label_at image.now labels k }
 {
-    // edge, x, y, flags
-    let words = four_at(image, labels, k, layout::LABEL_EDGE);
+    let (edge, x, y, flags) = four_at(image, labels, k, layout::LABEL_EDGE);
     PlacedLabel {
-        edge: words.first,
-        x: words.second,
-        y: words.third,
-        placeable: flag(words.fourth, layout::PLACEABLE),
-        row_has_node: flag(words.fourth, layout::ROW_HAS_NODE),
+        edge,
+        x,
+        y,
+        placeable: flag(flags, layout::PLACEABLE),
+        row_has_node: flag(flags, layout::ROW_HAS_NODE),
     }
 }
 
@@ -513,11 +460,32 @@ pub fn placed_label_at(image: &[u32], labels: Table, k: usize) -> PlacedLabel
 #[derive(Clone, Copy)]
 pub enum ElementKind {
     // a node
-    Node,
+    Node = 0,
     // an edge
-    Edge,
+    Edge = 1,
     // a subgraph
-    Subgraph,
+    Subgraph = 2,
+}
+
+impl From<ElementKind> for u32 {
+    ghost from_gives = { λ kind number. (number ≡ element_kind_number kind) × (number < element_kinds) };
+
+    fn from(kind: ElementKind) -> u32 {
+        kind as u32
+    }
+}
+
+// A number that no other kind has is a subgraph's.
+impl From<u32> for ElementKind {
+    ghost from_gives = { λ number kind. kind ≡ element_kind_of number };
+
+    fn from(number: u32) -> ElementKind {
+        match number {
+            0 => ElementKind::Node,
+            1 => ElementKind::Edge,
+            _ => ElementKind::Subgraph,
+        }
+    }
 }
 
 // The planner's listing of one thing: the rows that it may touch.
@@ -533,39 +501,16 @@ pub struct Element {
     pub last_row: u32,
 }
 
-impl ElementKind {
-    pub fn of(number: u32) -> ElementKind
-        ensures { result ≡ element_kind_of number }
-    {
-        match number {
-            0 => ElementKind::Node,
-            1 => ElementKind::Edge,
-            _ => ElementKind::Subgraph,
-        }
-    }
-}
-
-pub fn element_kind_number(kind: ElementKind) -> u32
-    ensures { (result ≡ element_kind_number kind) × (result < element_kinds) }
-{
-    match kind {
-        ElementKind::Node => 0,
-        ElementKind::Edge => 1,
-        ElementKind::Subgraph => 2,
-    }
-}
-
 pub fn element_at(image: &[u32], elements: Table, k: usize) -> Element
     requires { Small elements × (k < 4294967296) }
     ensures { result ≡ element_at image.now elements k }
 {
-    // kind, index, first row, last row
-    let words = four_at(image, elements, k, layout::ELEMENT_KIND);
+    let (kind, index, first_row, last_row) = four_at(image, elements, k, layout::ELEMENT_KIND);
     Element {
-        kind: ElementKind::of(words.first),
-        index: words.second,
-        first_row: words.third,
-        last_row: words.fourth,
+        kind: ElementKind::from(kind),
+        index,
+        first_row,
+        last_row,
     }
 }
 
@@ -595,27 +540,14 @@ pub fn table_words(image: &[u32], table: Table) -> &[u32]
     requires { Small table }
     ensures { result.now ≡ table_words image.now table }
 {
-    let count = table.count as u32;
-    span_words(
-        image,
-        table,
-        Span {
-            start: 0,
-            count: count,
-        },
-    )
+    let whole = Span {
+        start: 0,
+        count: table.count as u32,
+    };
+    span_words(image, table, whole)
 }
 
-// A point of a path.
-#[derive(Clone, Copy)]
-pub struct Point {
-    // its column
-    pub x: u32,
-    // its row
-    pub y: u32,
-}
-
-// How many points such a part has.
+// How many points a path's part of the table has.
 pub fn point_count(points: &[u32]) -> usize
     ensures { result ≡ point_count points.now }
 {

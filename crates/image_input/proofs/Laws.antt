@@ -5,13 +5,13 @@ use mathlib.Core.Path.{◌≡◌, refl, sym, ap, ◌∙◌}
 use mathlib.Core.List.{List}
 use lib.ListN.{length, take, set}
 use lib.Seq.{get_or-take, length-take-le}
+use Rattle.std.specs.Prelude.{Result, Ok}
 use Rattle.wordfile.specs.Words.{word_at, filled}
-use Rattle.image_input.specs.declared.Image.{Image}
-use Rattle.image_input.specs.declared.Image.TheVariants.{Words}
+use Rattle.image_input.specs.declared.Unread.{Unread}
 use Rattle.image_input.specs.Came.{Came}
 
 -- where words were read, the lent ones have room for them
-pub words_within : (came : Image) (n : ℕ) (bytes words words' : List ℕ) → came ≡ Words n → Came came bytes words words' → n ≤ length words'
+pub words_within : (came : Result ℕ Unread) (n : ℕ) (bytes words words' : List ℕ) → came ≡ Ok n → Came came bytes words words' → n ≤ length words'
 words_within came n bytes words words' e is = (rw e at is).1
 
 -- a word of a file's first bytes is one of all of them
@@ -40,7 +40,7 @@ pub words_read :
     words' ≡ filled (take got bytes) words 0 (min (length (take got bytes) / 4) (length words)) →
     got < length bytes →
     n ≤ length words' →
-    Came (Words n) bytes words words'
+    Came (Ok n) bytes words words'
 words_read bytes words words' got n e is less has =
     let came : length (take got bytes) ≡ got = length-take-le got bytes (omega arith) in
     let few : 4 * n ≤ got = omega (arith, e, came) in

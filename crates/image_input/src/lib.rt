@@ -1,11 +1,11 @@
 // An image on standard input: words of four bytes each, the most significant first.
 #![tactic(auto)]
 
-ghost use Rattle.std.specs.Prelude.{◌<◌, length};
+ghost use Rattle.std.specs.Prelude.{◌≡◌, ◌<◌, Ok, length};
 ghost use Rattle.image_input.specs.Came.{Came};
+ghost use Rattle.image_input.specs.declared.Unread.TheVariants.{Failed};
 
-use input::Input;
-use std::io;
+use std::{fmt, io};
 
 // The words of nodes, edges, subgraphs and placed labels, each as many as there may be.
 const THING_WORDS: usize = layout::MAX_THINGS as usize
@@ -19,11 +19,9 @@ pub const MOST_WORDS: usize = layout::HEADER_SIZE
     + layout::MAX_GLYPHS as usize * layout::GLYPH_SIZE
     + layout::MAX_RANGES as usize * layout::RANGE_SIZE;
 
-// What came of reading.
-#[derive(Clone, Copy)]
-pub enum Image {
-    // so many words stand at the start of the lent ones
-    Words(usize),
+// Why no image was read.
+#[derive(Clone, Copy, Debug)]
+pub enum Unread {
     // the system refused to read
     Failed,
     // there are more bytes than an image may have
@@ -32,27 +30,59 @@ pub enum Image {
     Broken(usize),
 }
 
+impl From<io::Error> for Unread {
+    ghost from_gives = { λ _ why. why ≡ Failed };
+
+    fn from(_refusal: io::Error) -> Unread {
+        Unread::Failed
+    }
+}
+
+impl fmt::Display for Unread {
+    fn fmt<W: fmt::Write>(&self, f: &mut fmt::Formatter<W>) -> fmt::Result {
+        match *self {
+            Unread::Failed => write!(
+                f,
+                "the input cannot be read; standard input may be closed, or a folder"
+            ),
+            Unread::TooLong => write!(
+                f,
+                "the input has over {} bytes; an image has at most {MOST_WORDS} words, of four bytes each",
+                4 * MOST_WORDS
+            ),
+            Unread::Broken(got) => {
+                let s = if got == 1 { "" } else { "s" };
+                write!(
+                    f,
+                    "the input has {got} byte{s}, no whole number of words; a word has four bytes"
+                )
+            }
+        }
+    }
+}
+
 // The words of the first so many bytes, which are not all of them.
 fn fill_words(bytes: &[u8], got: usize, words: &mut [u32]) -> usize
     requires { got < length bytes.now }
-    ensures { Came (Image.Words result) bytes.now words.old words.new }
+    ensures { Came (Ok result) bytes.now words.old words.new }
 {
     wordfile::fill(&bytes[..got], words)
 }
 
 // Reads an image into the lent words. The lent bytes have room for one more than the largest image has: where they are filled the input is longer, and is never taken for a whole one.
-pub fn read_image<R: io::Read>(from: &mut R, bytes: &mut [u8], words: &mut [u32]) -> Image
+pub fn read_image<R: io::Read>(
+    from: &mut R,
+    bytes: &mut [u8],
+    words: &mut [u32],
+) -> Result<usize, Unread>
     ensures { Came result bytes.new words.old words.new }
 {
-    let came = input::read_all(from, bytes);
-    let Input::Bytes(got) = came else {
-        return Image::Failed;
-    };
+    let got = input::read_all(from, bytes)?;
     if bytes.len() <= got {
-        return Image::TooLong;
+        return Err(Unread::TooLong);
     }
     if got % 4 != 0 {
-        return Image::Broken(got);
+        return Err(Unread::Broken(got));
     }
-    Image::Words(fill_words(bytes, got, words))
+    Ok(fill_words(bytes, got, words))
 }

@@ -315,17 +315,14 @@ pub fn record_at(table: Table, k: usize) -> usize
     requires { Small table × (k < 4294967296) }
     ensures { (result ≡ record_at table k) × (result ≤ table.start + 0x1000000000) }
 {
-    let start = table.start;
-    let size = table.size;
-    start + k * size
+    table.start + k * table.size
 }
 
 pub fn table_end(table: Table) -> usize
     requires { Small table }
     ensures { (result ≡ table_end table) × (result ≤ table.start + 0x1000000000) }
 {
-    let count = table.count;
-    record_at(table, count)
+    record_at(table, table.count)
 }
 
 // The table that follows, whose count stands in this word of the header.
@@ -336,7 +333,7 @@ fn table_after(before: Table, image: &[u32], counted: usize, size: usize) -> Tab
     Table {
         start: table_end(before),
         count: ground::number(word(image, counted)),
-        size: size,
+        size,
     }
 }
 
@@ -359,14 +356,14 @@ pub fn tables_of(image: &[u32]) -> Tables
     let glyphs = table_after(points, image, HEADER_GLYPHS, GLYPH_SIZE);
     let ranges = table_after(glyphs, image, HEADER_RANGES, RANGE_SIZE);
     Tables {
-        nodes: nodes,
-        edges: edges,
-        subgraphs: subgraphs,
-        labels: labels,
-        elements: elements,
-        points: points,
-        glyphs: glyphs,
-        ranges: ranges,
+        nodes,
+        edges,
+        subgraphs,
+        labels,
+        elements,
+        points,
+        glyphs,
+        ranges,
     }
 }
 
@@ -457,7 +454,7 @@ fn field_in(kind: RecordKind, table: Table, place: usize) -> FieldName
     let size = table.size;
     let words = ground::minus(place, table.start);
     FieldName::Record {
-        kind: kind,
+        kind,
         index: words / size,
         field: words % size,
     }

@@ -1,5 +1,6 @@
 -- A leg touches no row that lies above both its ends and its corner, and none that lies below all three; so that its ends alone may tell that it touches no
 -- row of a window.
+use Rattle.std.specs.Prelude.{Option, Some, None}
 use native.Mathlib.Omega.{arith}
 use Prim.Native.Nat.{ℕ, zero, suc, ◌+◌, ◌-◌, ◌≤◌, ◌<◌, min, max}
 use mathlib.Core.Path.{◌≡◌, refl}
@@ -15,8 +16,6 @@ use Rattle.image.specs.declared.Edge.{Edge}
 use Rattle.image.specs.declared.FlowAxis.{FlowAxis}
 use Rattle.image.specs.declared.FlowAxis.TheVariants as axis
 use Rattle.rows.specs.Spots.{Ink, at, touches}
-use Rattle.flow.specs.declared.Coordinate.{Coordinate}
-use Rattle.flow.specs.declared.Coordinate.TheVariants as coordinate
 use Rattle.flow.specs.declared.Bend.{Bend}
 use Rattle.flow.specs.declared.Leg.{Leg}
 use Rattle.flow.specs.declared.Line.{Line}
@@ -164,7 +163,7 @@ module _ (y : ℕ) where
       against_flow true k h = omega arith
       against_flow false k h = omega arith
 
-      bent_at : (row : ℕ) → Off above y row → AllClear (down.crossing_y e offset leg (coordinate.At row))
+      bent_at : (row : ℕ) → Off above y row → AllClear (down.crossing_y e offset leg (Some row))
       unfolding down.crossing_y leg_bend
       bent_at row b = bent_y_lem above e.weight (down.sign_y e) (leg_bend e offset leg row) one two b
 
@@ -176,10 +175,10 @@ module _ (y : ℕ) where
           (λ b. rw (along_below leg.y1 steps b) all_none)
           (λ a. rw (along_back leg.y1 steps a) (bent_at (leg.y1 - steps) (against_flow above a p)))
 
-      crossing_x_lem : (c : Coordinate) → AllClear (across.crossing_x e offset leg c)
+      crossing_x_lem : (c : Option ℕ) → AllClear (across.crossing_x e offset leg c)
       unfolding across.crossing_x leg_bend
-      crossing_x_lem coordinate.Below = all_none
-      crossing_x_lem (coordinate.At column) = bent_x_lem above e.weight (across.sign_x e) (leg_bend e offset leg column) one two
+      crossing_x_lem None = all_none
+      crossing_x_lem (Some column) = bent_x_lem above e.weight (across.sign_x e) (leg_bend e offset leg column) one two
 
       straight_y_lem : AllClear (down.straight_y e leg)
       unfolding down.straight_y down.own_start_y down.straight_line_y line_of

@@ -1,4 +1,5 @@
 -- The pieces of a leg, of the numbers and parts by which the code makes them.
+use Rattle.std.specs.Prelude.{Option}
 use Prim.Native.Nat.{ℕ}
 use mathlib.Core.Path.{◌≡◌}
 use Rattle.cell.specs.declared.Arms.{Arms}
@@ -15,7 +16,7 @@ use Rattle.orthogonal.specs.declared.EndMark.{EndMark}
 use Rattle.orthogonal.specs.Orthogonal.{toward, only_arm, bend_arms, mark_or, bend_piece, head_on_column, head_on_row, column_line, row_line}
 
 -- the interior of a leg along a column, and along a row
-module _ (target source : EndMark) (from to : Point) (lane a b : ℕ) (winner other : Head) (line : Line) where
+module _ (target source : Option EndMark) (from to : Point) (lane a b : ℕ) (winner other : Option Head) (line : Line) where
   pub along_column :
       lane ≡ from.x → a ≡ from.y → b ≡ to.y → winner ≡ head_on_column target lane → other ≡ head_on_column source lane →
       line ≡ line_of lane a b winner other →
@@ -40,7 +41,7 @@ both_arms w at before next back on one other r p q s t e = rw (e, s, t, p, q)
 
 -- the bend at a stop, under the source's arrow, under the target's
 pub bend_of :
-    (w : Weight) (target source : EndMark) (at before next : Point) (x y : ℕ) (arms : Arms) (under r : Piece) →
+    (w : Weight) (target source : Option EndMark) (at before next : Point) (x y : ℕ) (arms : Arms) (under r : Piece) →
     x ≡ at.x → y ≡ at.y → arms ≡ bend_arms w at before next → under ≡ mark_or source x y (Stroke x y arms) → r ≡ mark_or target x y under →
     r ≡ bend_piece w target source at before next
 unfolding bend_piece

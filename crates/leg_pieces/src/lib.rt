@@ -10,35 +10,31 @@ use image::Point;
 use orthogonal::{EndMark, PathLeg};
 
 // An arrow of the path as an arrow of the line at a column.
-fn head_on_column(mark: EndMark, column: usize) -> Head
+fn head_on_column(mark: Option<EndMark>, column: usize) -> Option<Head>
     ensures { result ≡ head_on_column mark column }
 {
-    let EndMark::At { x, y, dir } = mark else {
-        return Head::None;
-    };
+    let EndMark { x, y, dir } = mark?;
     if x == column {
-        Head::At(y, dir)
+        Some(Head { place: y, dir })
     } else {
-        Head::None
+        None
     }
 }
 
 // An arrow of the path as an arrow of the line at a row.
-fn head_on_row(mark: EndMark, row: usize) -> Head
+fn head_on_row(mark: Option<EndMark>, row: usize) -> Option<Head>
     ensures { result ≡ head_on_row mark row }
 {
-    let EndMark::At { x, y, dir } = mark else {
-        return Head::None;
-    };
+    let EndMark { x, y, dir } = mark?;
     if y == row {
-        Head::At(x, dir)
+        Some(Head { place: x, dir })
     } else {
-        Head::None
+        None
     }
 }
 
 // The interior of a leg: "slanted legs paint no interior"; "target wins; drawn wherever the path passes that cell".
-pub fn leg_line(target: EndMark, source: EndMark, leg: PathLeg) -> Piece
+pub fn leg_line(target: Option<EndMark>, source: Option<EndMark>, leg: PathLeg) -> Piece
     ensures { result ≡ leg_line target source leg }
 {
     let from = leg.from;
@@ -53,7 +49,7 @@ pub fn leg_line(target: EndMark, source: EndMark, leg: PathLeg) -> Piece
 }
 
 // The interior of a leg along a column.
-fn column_line(target: EndMark, source: EndMark, from: Point, to: Point) -> Piece
+fn column_line(target: Option<EndMark>, source: Option<EndMark>, from: Point, to: Point) -> Piece
     ensures { result ≡ column_line target source from to }
 {
     let x = ground::number(from.x);
@@ -67,7 +63,7 @@ fn column_line(target: EndMark, source: EndMark, from: Point, to: Point) -> Piec
 }
 
 // The interior of a leg along a row.
-fn row_line(target: EndMark, source: EndMark, from: Point, to: Point) -> Piece
+fn row_line(target: Option<EndMark>, source: Option<EndMark>, from: Point, to: Point) -> Piece
     ensures { result ≡ row_line target source from to }
 {
     let y = ground::number(from.y);
@@ -85,31 +81,17 @@ fn only_arm(w: Weight, dir: Dir) -> Arms
     ensures { result ≡ only_arm w dir }
 {
     let n = Weight::None;
+    let none = Arms {
+        up: n,
+        down: n,
+        left: n,
+        right: n,
+    };
     match dir {
-        Dir::Up => Arms {
-            up: w,
-            down: n,
-            left: n,
-            right: n,
-        },
-        Dir::Down => Arms {
-            up: n,
-            down: w,
-            left: n,
-            right: n,
-        },
-        Dir::Left => Arms {
-            up: n,
-            down: n,
-            left: w,
-            right: n,
-        },
-        Dir::Right => Arms {
-            up: n,
-            down: n,
-            left: n,
-            right: w,
-        },
+        Dir::Up => Arms { up: w, ..none },
+        Dir::Down => Arms { down: w, ..none },
+        Dir::Left => Arms { left: w, ..none },
+        Dir::Right => Arms { right: w, ..none },
     }
 }
 
@@ -122,34 +104,20 @@ fn bend_arms(w: Weight, at: Point, before: Point, next: Point) -> Arms
 }
 
 // The arrow in a cell, or else what is drawn there.
-fn mark_or(mark: EndMark, x: usize, y: usize, other: Piece) -> Piece
+fn mark_or(mark: Option<EndMark>, x: usize, y: usize, other: Piece) -> Piece
     ensures { result ≡ mark_or mark x y other }
 {
-    let EndMark::At {
-        x: column,
-        y: row,
-        dir,
-    } = mark
-    else {
-        return other;
-    };
-    if column == x {
-        if row == y {
-            return Piece::Mark {
-                x: x,
-                y: y,
-                dir: dir,
-            };
-        }
+    match mark {
+        Some(m) if m.x == x && m.y == y => Piece::Mark { x, y, dir: m.dir },
+        _ => other,
     }
-    other
 }
 
 // The bend at a stop: the target's arrow, the source's, or arms.
 fn bend_piece(
     w: Weight,
-    target: EndMark,
-    source: EndMark,
+    target: Option<EndMark>,
+    source: Option<EndMark>,
     at: Point,
     before: Point,
     next: Point,
@@ -167,7 +135,12 @@ fn bend_piece(
 }
 
 // The bend at a leg's start: there is none at the source.
-pub fn leg_bend_piece(w: Weight, target: EndMark, source: EndMark, leg: PathLeg) -> Piece
+pub fn leg_bend_piece(
+    w: Weight,
+    target: Option<EndMark>,
+    source: Option<EndMark>,
+    leg: PathLeg,
+) -> Piece
     ensures { result ≡ leg_bend_piece w target source leg }
 {
     let before = leg.before;

@@ -12,9 +12,7 @@ use mir.Val.{Fits}
 use mir.Syntax.{w64}
 use Rattle.ground.specs.Judged.{Judged, first_bad}
 use Rattle.ground.proofs.Order.{by_order}
-use Rattle.refusals.specs.declared.Verdict.{Verdict}
-use Rattle.refusals.specs.declared.Verdict.TheVariants.{Passed, Refused}
-use Rattle.refusals.specs.FirstBroken.{rule, first_broken}
+use Rattle.refusals.specs.FirstBroken.{Verdict, Passed, Refused, rule, first_broken}
 use Rattle.picture.specs.Picture.{width, height}
 use Rattle.picture.specs.Painted.{outside_sheet, too_little_room, room, scratch_room, band_judged, plain_rooms, coloured_rooms, plain_judged, coloured_judged, band_rules}
 

@@ -2,13 +2,12 @@
 #![tactic(auto)]
 
 ghost use Rattle.std.specs.Prelude.{◌≡◌, false, not, [], ◌∷◌, ◌+◌, ◌<◌, leb, length};
-ghost use Rattle.refusals.specs.FirstBroken.{rule, first_broken};
+ghost use Rattle.refusals.specs.FirstBroken.{Refused, rule, first_broken};
 ghost use Rattle.picture.specs.Picture.{height};
-ghost use Rattle.refusals.specs.declared.Verdict.TheVariants as verdict;
 ghost use Rattle.picture.specs.Painted.{too_little_room, room, scratch_room, plain_rooms, coloured_rooms, plain_judged, coloured_judged, band_rules};
 
 use layout::{HEADER_ELEMENTS, HEADER_HEIGHT, HEADER_RUNS, HEADER_WIDTH, word};
-use refusals::Verdict;
+use refusals::Refusal;
 
 // "first band row + rows > height"
 pub const OUTSIDE_SHEET: u32 = 11;
@@ -60,17 +59,22 @@ pub fn scratch_room(image: &[u32]) -> usize
     8 * ground::number(word(image, HEADER_RUNS)) + ground::number(word(image, HEADER_ELEMENTS))
 }
 
-fn short(place: usize) -> Verdict
-    ensures { result ≡ verdict.Refused too_little_room place }
+fn short(place: usize) -> Result<(), Refusal>
+    ensures { result ≡ Refused too_little_room place }
 {
-    Verdict::Refused {
+    Err(Refusal {
         code: TOO_LITTLE_ROOM,
         place: place,
-    }
+    })
 }
 
 // What of cells and scratch is short, where so many words are wanted of each.
-pub fn short_plain(words: usize, needed: usize, cells: &[u32], scratch: &[u32]) -> Verdict
+pub fn short_plain(
+    words: usize,
+    needed: usize,
+    cells: &[u32],
+    scratch: &[u32],
+) -> Result<(), Refusal>
     ensures { result ≡ first_broken (rule too_little_room (plain_rooms words needed cells.now scratch.now) ∷ []) }
 {
     if is_short(cells, words) {
@@ -79,7 +83,7 @@ pub fn short_plain(words: usize, needed: usize, cells: &[u32], scratch: &[u32]) 
     if is_short(scratch, needed) {
         return short(SCRATCH);
     }
-    Verdict::Passed
+    Ok(())
 }
 
 // What of cells, colours, stamps and scratch is short, the first of them.
@@ -90,7 +94,7 @@ pub fn short_coloured(
     colours: &[u32],
     stamps: &[u32],
     scratch: &[u32],
-) -> Verdict
+) -> Result<(), Refusal>
     ensures { result ≡ first_broken (rule too_little_room (coloured_rooms words needed cells.now colours.now stamps.now scratch.now) ∷ []) }
 {
     if is_short(cells, words) {
@@ -105,7 +109,7 @@ pub fn short_coloured(
     if is_short(scratch, needed) {
         return short(SCRATCH);
     }
-    Verdict::Passed
+    Ok(())
 }
 
 // Of a plain band: 11, then what of cells and scratch is short.
@@ -115,14 +119,14 @@ pub fn check_plain(
     rows: usize,
     cells: &[u32],
     scratch: &[u32],
-) -> Verdict
+) -> Result<(), Refusal>
     ensures { result ≡ first_broken (band_rules image.now first rows (plain_judged image.now rows cells.now scratch.now)) }
 {
     if is_outside(image, first, rows) {
-        return Verdict::Refused {
+        return Err(Refusal {
             code: OUTSIDE_SHEET,
             place: 0,
-        };
+        });
     }
     short_plain(room(image, rows), scratch_room(image), cells, scratch)
 }
@@ -136,14 +140,14 @@ pub fn check_coloured(
     colours: &[u32],
     stamps: &[u32],
     scratch: &[u32],
-) -> Verdict
+) -> Result<(), Refusal>
     ensures { result ≡ first_broken (band_rules image.now first rows (coloured_judged image.now rows cells.now colours.now stamps.now scratch.now)) }
 {
     if is_outside(image, first, rows) {
-        return Verdict::Refused {
+        return Err(Refusal {
             code: OUTSIDE_SHEET,
             place: 0,
-        };
+        });
     }
     short_coloured(
         room(image, rows),

@@ -1,4 +1,5 @@
 -- A line is clipped to the rows of the window, or to the columns of a row, and where no arrow lies there it is strokes alone: what is left is the whole line.
+use Rattle.std.specs.Prelude.{Option}
 use native.Mathlib.Omega.{arith}
 use Prim.Native.Nat.{ℕ, ◌+◌, ◌-◌, ◌*◌, ◌≤◌, ◌<◌, min, max}
 use mathlib.Core.Bool.{Bool, true}
@@ -66,7 +67,7 @@ module _ (v : Window) (low high : ℕ) where
         let same : after ≡ before = done ∙ rw none in
         same ∙ rows_missed change before (omega arith))
 
-    module _ (ranges : List ℕ) (x word : ℕ) (arms : Arms) (dashed : Bool) (winner other : Head) (made : read_arms word ≡ arms) where
+    module _ (ranges : List ℕ) (x word : ℕ) (arms : Arms) (dashed : Bool) (winner other : Option Head) (made : read_arms word ≡ arms) where
       -- with its arrows
       pub down_arrows :
           after ≡ on_rows v from end (λ y. ink_on ranges x (ink_at (read_arms word) dashed winner other y)) before →
@@ -89,7 +90,7 @@ module _ (v : Window) (low high : ℕ) where
 
 -- Along a row.
 
-module _ (ranges : List ℕ) (low high end word : ℕ) (arms : Arms) (dashed : Bool) (winner other : Head) (row after : List ℕ) (clip : end ≡ min high (length row)) (made : read_arms word ≡ arms) where
+module _ (ranges : List ℕ) (low high end word : ℕ) (arms : Arms) (dashed : Bool) (winner other : Option Head) (row after : List ℕ) (clip : end ≡ min high (length row)) (made : read_arms word ≡ arms) where
   step : ℕ → List ℕ → List ℕ
   step k r = ink_on ranges k (ink_at arms dashed winner other k) r
 

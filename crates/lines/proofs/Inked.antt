@@ -1,10 +1,12 @@
 -- A line as writes: row after row of a window, or all in one row, plane by plane.
+use Rattle.std.specs.Prelude.{Option, None, Some}
 use native.Mathlib.Omega.{arith}
 use Prim.Native.Nat.{ℕ, zero, suc, ◌+◌, ◌-◌, ◌≤◌, min, max}
 use mathlib.Core.Bool.{Bool, false}
 use mathlib.Core.List.{List, map}
 use mathlib.Core.Path.{◌≡◌, refl, sym, ap, ◌∙◌}
 use lib.ListN.{set}
+use Rattle.std.specs.Prelude.{Option, Some, None}
 use Rattle.ground.specs.Each.{numbers}
 use Rattle.ground.specs.Turns.{turns}
 use Rattle.ground.proofs.Each.{cond_holds, numbers_done}
@@ -13,12 +15,9 @@ use Rattle.rows.specs.declared.Window.{Window}
 use Rattle.rows.specs.Window.{in_window}
 use Rattle.rows.specs.Spots.{Ink, stroke, Spot, at}
 use Rattle.flow.specs.declared.Head.{Head}
-use Rattle.flow.specs.declared.Head.TheVariants as head
 use Rattle.flow.specs.declared.Line.{Line}
 use Rattle.flow.specs.Pieces.{arrow_or, line_ink}
 use Rattle.window.specs.declared.Lent.{Lent}
-use Rattle.window.specs.declared.Paint.{Paint}
-use Rattle.window.specs.declared.Paint.TheVariants.{Keep, Set}
 use Rattle.window.specs.declared.Tint.{Tint}
 use Rattle.window.specs.Writes.{Write, write, tinted, ink_on, columns_of, fill, paint_on, ink_cells, ink_colours, ink_stamps}
 use Rattle.window.specs.Window.{on_row, window_after, ink_window, plane_of, canvas_of}
@@ -67,12 +66,12 @@ module _ (change : Write → List ℕ → List ℕ) (tint : Tint) (spot : ℕ �
       ∙ on_row_cong v y (in_order change (writes low n)) (turns step low n) plane (in_order_lem low n)
 
 -- a colour or a stamp in each of some columns
-paint_along : (paint : Paint) (low n : ℕ) (row : List ℕ) → turns (λ k r. paint_on paint k 1 r) low n row ≡ paint_on paint low n row
+paint_along : (paint : Option ℕ) (low n : ℕ) (row : List ℕ) → turns (λ k r. paint_on paint k 1 r) low n row ≡ paint_on paint low n row
 unfolding turns paint_on fill
-paint_along Keep low zero row = refl
-paint_along Keep low (suc n) row = paint_along Keep (suc low) n row
-paint_along (Set value) low zero row = refl
-paint_along (Set value) low (suc n) row = paint_along (Set value) (suc low) n (set row low value)
+paint_along None low zero row = refl
+paint_along None low (suc n) row = paint_along None (suc low) n row
+paint_along (Some value) low zero row = refl
+paint_along (Some value) low (suc n) row = paint_along (Some value) (suc low) n (set row low value)
 
 module _ (ranges : List ℕ) (tint : Tint) (arms : Arms) (dashed : Bool) (l : Line) where
   -- what stands at a place, as the code finds it
@@ -84,11 +83,11 @@ module _ (ranges : List ℕ) (tint : Tint) (arms : Arms) (dashed : Bool) (l : Li
   unfolding ink_at head_here head_dir
   ink_at_lem k = by_heads l.winner l.other
     where
-      by_heads : (one two : Head) → ink_at arms dashed one two k ≡ arrow_or dashed one k (arrow_or dashed two k (stroke arms))
-      by_heads head.None head.None = refl
-      by_heads head.None (head.At n dir) = refl
-      by_heads (head.At n dir) head.None = refl
-      by_heads (head.At n dir) (head.At m d) = refl
+      by_heads : (one two : Option Head) → ink_at arms dashed one two k ≡ arrow_or dashed one k (arrow_or dashed two k (stroke arms))
+      by_heads None None = refl
+      by_heads None (Some h) = refl
+      by_heads (Some h) None = refl
+      by_heads (Some h) (Some o) = refl
 
   -- and takes one column
   line_columns_lem : (k : ℕ) → columns_of ranges (line_ink dashed l arms k) ≡ 1

@@ -1,4 +1,5 @@
 -- A line's cells: what stands at a place of it, and what lies past a row's end.
+use Rattle.std.specs.Prelude.{Option, None, Some}
 use native.Mathlib.Omega.{arith}
 use Prim.Native.Nat.{ℕ, ◌+◌, ◌-◌, ◌≤◌, ◌<◌}
 use mathlib.Core.Bool.{Bool, true, false}
@@ -18,18 +19,17 @@ use Rattle.canvas.specs.Row.{stroke_row, marker_row}
 use Rattle.canvas.proofs.Theorems.{stroke_off, marker_off, text_off}
 use Rattle.rows.specs.Spots.{Ink, stroke, marker, glyph}
 use Rattle.flow.specs.declared.Head.{Head}
-use Rattle.flow.specs.declared.Head.TheVariants as head
 use Rattle.window.specs.Writes.{ink_on}
 use Rattle.lines.specs.Computed.{head_here, head_dir, free_of, ink_at, ink_along}
 
 -- An arrow stands at its place alone.
-pub here_at : (h : Head) (k n : ℕ) (dir : Dir) → h ≡ head.At n dir → eqb n k ≡ head_here h k
+pub here_at : (h : Option Head) (k : ℕ) (a : Head) → h ≡ Some a → eqb a.place k ≡ head_here h k
 unfolding head_here
-here_at h k n dir e = rw e
+here_at h k a e = rw e
 
 -- A cell of a line: the first arrow, the second where the first is not, and elsewhere the stroke.
 
-module _ (ranges : List ℕ) (x : ℕ) (arms : Arms) (dashed : Bool) (winner other : Head) (k : ℕ) (row after : List ℕ) where
+module _ (ranges : List ℕ) (x : ℕ) (arms : Arms) (dashed : Bool) (winner other : Option Head) (k : ℕ) (row after : List ℕ) where
   module _ (one : Bool) (e : one ≡ head_here winner k) where
     pub cell_winner :
         (dir : Dir) →
@@ -65,7 +65,7 @@ ink_off ranges x (marker kind dir dashed) row h = marker_off row ranges x kind d
 ink_off ranges x (glyph ch) row h = text_off row ranges x ch h
 
 -- A turn of the loop along a row, and its end.
-module _ (ranges : List ℕ) (arms : Arms) (dashed : Bool) (winner other : Head) (x end : ℕ) (row whole : List ℕ) (left : ink_along ranges arms dashed winner other x end row ≡ whole) where
+module _ (ranges : List ℕ) (arms : Arms) (dashed : Bool) (winner other : Option Head) (x end : ℕ) (row whole : List ℕ) (left : ink_along ranges arms dashed winner other x end row ≡ whole) where
   step : ℕ → List ℕ → List ℕ
   step k r = ink_on ranges k (ink_at arms dashed winner other k) r
 
@@ -98,26 +98,26 @@ module _ (ranges : List ℕ) (word x end : ℕ) (row whole : List ℕ) (left : t
 
 -- whether an arrow stands before the places, or else after them
 
-pub free_before : (h : Head) (low high n : ℕ) (dir : Dir) → h ≡ head.At n dir → n < low → true ≡ free_of h low high
+pub free_before : (h : Option Head) (low high : ℕ) (a : Head) → h ≡ Some a → a.place < low → true ≡ free_of h low high
 unfolding free_of
-free_before h low high n dir e p = rw (e, lt-ltb _ _ p)
+free_before h low high a e p = rw (e, lt-ltb _ _ p)
 
-pub free_after : (h : Head) (low high n : ℕ) (dir : Dir) → h ≡ head.At n dir → low ≤ n → leb high n ≡ free_of h low high
+pub free_after : (h : Option Head) (low high : ℕ) (a : Head) → h ≡ Some a → low ≤ a.place → leb high a.place ≡ free_of h low high
 unfolding free_of
-free_after h low high n dir e p = rw (e, le-ltb _ _ p)
+free_after h low high a e p = rw (e, le-ltb _ _ p)
 
 -- then it stands at none of them
-not_here : (h : Head) (low high k : ℕ) → free_of h low high ≡ true → low ≤ k → k < high → head_here h k ≡ false
+not_here : (h : Option Head) (low high k : ℕ) → free_of h low high ≡ true → low ≤ k → k < high → head_here h k ≡ false
 unfolding head_here free_of
-not_here head.None low high k e p q = refl
-not_here (head.At n dir) low high k e p q =
-    by_order n low
-    (λ h. ne_eqb n k (λ d. omega arith))
-    (λ h. let f : leb high n ≡ true = simp (le-ltb n low h) at e in
-    let g : high ≤ n = leb-true high n f in
-    ne_eqb n k (λ d. omega arith))
+not_here None low high k e p q = refl
+not_here (Some a) low high k e p q =
+    by_order a.place low
+    (λ h. ne_eqb a.place k (λ d. omega arith))
+    (λ h. let f : leb high a.place ≡ true = simp (le-ltb a.place low h) at e in
+    let g : high ≤ a.place = leb-true high a.place f in
+    ne_eqb a.place k (λ d. omega arith))
 
-module _ (arms : Arms) (dashed : Bool) (winner other : Head) (low end : ℕ) (one : free_of winner low end ≡ true) (two : free_of other low end ≡ true) where
+module _ (arms : Arms) (dashed : Bool) (winner other : Option Head) (low end : ℕ) (one : free_of winner low end ≡ true) (two : free_of other low end ≡ true) where
   pub free_ink : (k : ℕ) → low ≤ k → k < end → stroke arms ≡ ink_at arms dashed winner other k
   unfolding ink_at
   free_ink k p q = rw (not_here winner low end k one p q, not_here other low end k two p q)

@@ -14,31 +14,31 @@ use cell::{Arms, Dir, MarkerKind};
 use flow::Head;
 use rows::Window;
 
-fn head_here(head: Head, k: usize) -> bool
+fn head_here(head: Option<Head>, k: usize) -> bool
     ensures { result ≡ head_here head k }
 {
     match head {
-        Head::None => false,
-        Head::At(n, dir) => n == k,
+        None => false,
+        Some(h) => h.place == k,
     }
 }
 
-fn head_dir(head: Head) -> Dir
+fn head_dir(head: Option<Head>) -> Dir
     ensures { result ≡ head_dir head }
 {
     match head {
-        Head::None => Dir::Up,
-        Head::At(n, dir) => dir,
+        None => Dir::Up,
+        Some(h) => h.dir,
     }
 }
 
 // Whether no arrow stands at a place from low to below high.
-fn free_of(head: Head, low: usize, high: usize) -> bool
+fn free_of(head: Option<Head>, low: usize, high: usize) -> bool
     ensures { result ≡ free_of head low high }
 {
     match head {
-        Head::None => true,
-        Head::At(n, dir) => if n < low { true } else { high <= n },
+        None => true,
+        Some(h) => h.place < low || high <= h.place,
     }
 }
 
@@ -50,8 +50,8 @@ fn cell(
     k: usize,
     word: u32,
     dashed: bool,
-    winner: Head,
-    other: Head,
+    winner: Option<Head>,
+    other: Option<Head>,
 )
     requires { word ≡ pack (parts.Stroke (read_arms word)) }
     ensures { row.new ≡ ink_on ranges.now x (ink_at (read_arms word) dashed winner other k) row.old }
@@ -76,8 +76,8 @@ fn cell_part(
     k: usize,
     word: u32,
     dashed: bool,
-    winner: Head,
-    other: Head,
+    winner: Option<Head>,
+    other: Option<Head>,
 )
     requires { (start + width ≤ length cells.old) × (word ≡ pack (parts.Stroke (read_arms word))) }
     ensures { cells.new ≡ on_part start width (ink_on ranges.now x (ink_at (read_arms word) dashed winner other k)) cells.old }
@@ -119,11 +119,9 @@ fn strokes_down(
     let width = v.width;
     let first = v.first;
     let rows = v.rows;
-    let mut y = from;
-    while y < end {
+    for y in from..end {
         let start = window::row_start(y - first, width, rows);
         stroke_part(cells, ranges, start, width, x, word);
-        y += 1;
     }
 }
 
@@ -137,8 +135,8 @@ fn arrows_down(
     end: usize,
     word: u32,
     dashed: bool,
-    winner: Head,
-    other: Head,
+    winner: Option<Head>,
+    other: Option<Head>,
 )
     requires { Room v cells.old × (v.first ≤ from) × (end ≤ v.first + v.rows) × (word ≡ pack (parts.Stroke (read_arms word))) }
     ensures { cells.new ≡ on_rows v from end (λ y. ink_on ranges.now x (ink_at (read_arms word) dashed winner other y)) cells.old }
@@ -146,13 +144,11 @@ fn arrows_down(
     let width = v.width;
     let first = v.first;
     let rows = v.rows;
-    let mut y = from;
-    while y < end {
+    for y in from..end {
         let start = window::row_start(y - first, width, rows);
         cell_part(
             cells, ranges, start, width, x, y, word, dashed, winner, other,
         );
-        y += 1;
     }
 }
 
@@ -166,8 +162,8 @@ pub fn down(
     high: usize,
     arms: Arms,
     dashed: bool,
-    winner: Head,
-    other: Head,
+    winner: Option<Head>,
+    other: Option<Head>,
 )
     requires { Room v cells.old × (v.first + v.rows ≤ 0xFFFFFFFF) }
     ensures { cells.new ≡ on_rows v low high (λ y. ink_on ranges.now x (ink_at arms dashed winner other y)) cells.old }
@@ -191,10 +187,8 @@ fn strokes_along(row: &mut [u32], ranges: &[u32], low: usize, end: usize, word: 
     requires { word ≡ pack (parts.Stroke (read_arms word)) }
     ensures { row.new ≡ turns (λ x. ink_on ranges.now x (stroke (read_arms word))) low (end - low) row.old }
 {
-    let mut x = low;
-    while x < end {
+    for x in low..end {
         packed::stroke(row, ranges, x, word);
-        x += 1;
     }
 }
 
@@ -206,16 +200,14 @@ fn arrows_along(
     end: usize,
     word: u32,
     dashed: bool,
-    winner: Head,
-    other: Head,
+    winner: Option<Head>,
+    other: Option<Head>,
 )
     requires { word ≡ pack (parts.Stroke (read_arms word)) }
     ensures { row.new ≡ ink_along ranges.now (read_arms word) dashed winner other low end row.old }
 {
-    let mut x = low;
-    while x < end {
+    for x in low..end {
         cell(row, ranges, x, x, word, dashed, winner, other);
-        x += 1;
     }
 }
 
@@ -227,8 +219,8 @@ fn along_row(
     high: usize,
     arms: Arms,
     dashed: bool,
-    winner: Head,
-    other: Head,
+    winner: Option<Head>,
+    other: Option<Head>,
 )
     ensures { row.new ≡ ink_along ranges.now arms dashed winner other low high row.old }
 {
@@ -252,8 +244,8 @@ fn along_part(
     high: usize,
     arms: Arms,
     dashed: bool,
-    winner: Head,
-    other: Head,
+    winner: Option<Head>,
+    other: Option<Head>,
 )
     requires { start + width ≤ length cells.old }
     ensures { cells.new ≡ on_part start width (ink_along ranges.now arms dashed winner other low high) cells.old }
@@ -281,8 +273,8 @@ pub fn along(
     high: usize,
     arms: Arms,
     dashed: bool,
-    winner: Head,
-    other: Head,
+    winner: Option<Head>,
+    other: Option<Head>,
 )
     requires { Room v cells.old }
     ensures { cells.new ≡ on_row v y (ink_along ranges.now arms dashed winner other low high) cells.old }

@@ -7,8 +7,7 @@ use mathlib.Core.Logic.{◌↔◌}
 use mathlib.Core.Path.{◌≡◌, refl, sym, ◌∙◌}
 use lib.Dec.{leb}
 use borrow.Author.Tests.{le-leb, leb-true}
-use Rattle.ground.specs.declared.Found.{Found}
-use Rattle.ground.specs.declared.Found.TheVariants as found
+use Rattle.std.specs.Prelude.{Option, Some, None}
 use Rattle.ground.specs.Judged.{first_bad}
 use Rattle.ground.proofs.Each.{by_bool, and_left, and_right, and_both, every_number, number_every}
 use Rattle.ground.proofs.First.{or_none_both}
@@ -36,9 +35,9 @@ one_listing image ts once i j p q e f =
 
 -- The listing of a thing holds a row exactly where an element lists the thing with it.
 module _ (image : List ℕ) (ts : Tables) (kind : ElementKind) (k y : ℕ) where
-  held_lists : (l : Found) → listing image ts (element_kind_number kind) k ≡ l → holds_row image ts l y ≡ true → Lists image ts kind k y
-  held_lists found.None e h = clash h refl
-  held_lists (found.At j) e h =
+  held_lists : (l : Option ℕ) → listing image ts (element_kind_number kind) k ≡ l → holds_row image ts l y ≡ true → Lists image ts kind k y
+  held_lists None e h = clash h refl
+  held_lists (Some j) e h =
       let at = listing_at image ts (element_kind_number kind) k j e in
       record {
         element = j;
@@ -49,9 +48,9 @@ module _ (image : List ℕ) (ts : Tables) (kind : ElementKind) (k y : ℕ) where
         to = leb-true _ _ (and_right (leb (first_row image ts j) y) _ h);
       }
 
-  lists_held : (l : Found) → Once image ts → listing image ts (element_kind_number kind) k ≡ l → Lists image ts kind k y → holds_row image ts l y ≡ true
-  lists_held found.None once e x = absurd (listing_none image ts (element_kind_number kind) k e x.element x.there x.kinds x.index)
-  lists_held (found.At j) once e x =
+  lists_held : (l : Option ℕ) → Once image ts → listing image ts (element_kind_number kind) k ≡ l → Lists image ts kind k y → holds_row image ts l y ≡ true
+  lists_held None once e x = absurd (listing_none image ts (element_kind_number kind) k e x.element x.there x.kinds x.index)
+  lists_held (Some j) once e x =
       let at = listing_at image ts (element_kind_number kind) k j e in
       let same = one_listing image ts once x.element j x.there at.0 (x.kinds ∙ sym at.1) (x.index ∙ sym at.2) in
       and_both (le-leb _ _ (rw same at x.from)) (le-leb _ _ (rw same at x.to))
@@ -59,7 +58,7 @@ module _ (image : List ℕ) (ts : Tables) (kind : ElementKind) (k y : ℕ) where
 module _ (image : List ℕ) (ts : Tables) where
   -- nothing is found among things of one kind, and of each kind
 
-  kind_iff : (kind : ElementKind) → (first_bad (things_judged kind image ts) ≡ found.None) ↔ ((k : ℕ) → k < (thing_table kind ts).count → well_listed kind image ts k ≡ true)
+  kind_iff : (kind : ElementKind) → (first_bad (things_judged kind image ts) ≡ None) ↔ ((k : ℕ) → k < (thing_table kind ts).count → well_listed kind image ts k ≡ true)
   unfolding things_judged
   kind_iff kind = records_good_iff (thing_table kind ts) (well_listed kind image ts)
 
@@ -68,17 +67,17 @@ module _ (image : List ℕ) (ts : Tables) where
   by_kind P a b c kind.Edge = b
   by_kind P a b c kind.Subgraph = c
 
-  kinds_iff : (first_bad (listed_judged image ts) ≡ found.None) ↔ ((kind : ElementKind) → first_bad (things_judged kind image ts) ≡ found.None)
+  kinds_iff : (first_bad (listed_judged image ts) ≡ None) ↔ ((kind : ElementKind) → first_bad (things_judged kind image ts) ≡ None)
   kinds_iff = (
     (λ h.
         let a = or_none_both _ _ (sym (first_in_turn image ts) ∙ h) in
         let b = or_none_both _ _ a.1 in
-        by_kind (λ kind. first_bad (things_judged kind image ts) ≡ found.None) a.0 b.0 b.1),
+        by_kind (λ kind. first_bad (things_judged kind image ts) ≡ None) a.0 b.0 b.1),
     (λ h. first_in_turn image ts ∙ rw (h kind.Node, h kind.Edge) (h kind.Subgraph)),
   )
 
   -- Where no two elements name the same thing, code 9 finds nothing exactly where each thing is listed with each sheet row that it touches.
-  pub listed_iff : Once image ts → (first_bad (listed_judged image ts) ≡ found.None) ↔ AllListed image ts
+  pub listed_iff : Once image ts → (first_bad (listed_judged image ts) ≡ None) ↔ AllListed image ts
   unfolding well_listed
   listed_iff once = (
     (λ h kind k p y q t.

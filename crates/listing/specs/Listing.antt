@@ -1,7 +1,5 @@
 -- Code 9: "a node, edge or subgraph touches a sheet row that its listing lacks (unlisted: any)", at "its first word; nodes, edges, subgraphs in turn".
-use Rattle.std.specs.Prelude.{ℕ, ◌≤◌, ◌<◌, Bool, true, false, not, ◌&&◌, ◌||◌, List, ◌++◌, ◌≡◌, leb}
-use Rattle.ground.specs.declared.Found.{Found}
-use Rattle.ground.specs.declared.Found.TheVariants as found
+use Rattle.std.specs.Prelude.{ℕ, ◌≤◌, ◌<◌, Bool, true, false, not, ◌&&◌, ◌||◌, List, ◌++◌, ◌≡◌, leb, Option, Some, None}
 use Rattle.ground.specs.Each.{numbers, every}
 use Rattle.ground.specs.Judged.{Judged}
 use Rattle.layout.specs.declared.Tables.{Tables}
@@ -15,9 +13,9 @@ use Rattle.elements.specs.Elements.{kind_of, index_of, first_row, last_row, list
 use Rattle.things.specs.Things.{thing_touches}
 
 -- a listing holds a row; "unlisted": none
-abbrev pub holds_row : List ℕ → Tables → Found → ℕ → Bool
-holds_row image ts found.None y = false
-holds_row image ts (found.At j) y = leb (first_row image ts j) y && leb y (last_row image ts j)
+abbrev pub holds_row : List ℕ → Tables → Option ℕ → ℕ → Bool
+holds_row image ts None y = false
+holds_row image ts (Some j) y = leb (first_row image ts j) y && leb y (last_row image ts j)
 
 -- the listing of thing k of a kind is there and holds row y
 abbrev pub lists_row : List ℕ → Tables → ElementKind → ℕ → ℕ → Bool

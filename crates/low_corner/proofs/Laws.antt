@@ -1,11 +1,11 @@
 -- Laws over plain values, which the functions' proofs cite: a leg of a path, and the search for the first leg with a corner below 0.
+use Rattle.std.specs.Prelude.{Option, Some, None}
 use native.Mathlib.Omega.{arith}
 use Prim.Native.Nat.{ℕ, ◌+◌, ◌≤◌, ◌<◌}
 use mathlib.Core.Bool.{Bool, true, false}
 use mathlib.Core.List.{List}
 use mathlib.Core.Path.{◌≡◌, refl, sym, ◌∙◌, ap}
 use lib.Dec.{eqb}
-use Rattle.ground.specs.declared.Found.TheVariants as found
 use Rattle.image.specs.declared.Edge.{Edge}
 use Rattle.image.specs.declared.FlowAxis.{FlowAxis}
 use Rattle.image.specs.declared.Path.{Path}
@@ -19,7 +19,6 @@ use Rattle.path.specs.Pieces.{leg_between, leg_at}
 use Rattle.path.specs.Corners.{leg_below}
 use Rattle.finding.proofs.Search.{found_to, search_whole, search_hit, search_on, search_done}
 use Rattle.low_corner.specs.declared.LowCorner.{LowCorner}
-use Rattle.low_corner.specs.declared.LowCorner.TheVariants as low
 use Rattle.low_corner.specs.Low.{leg_low, low_leg, corner_at, corner_of, low_of}
 
 -- the leg between two points of the path that follow one another
@@ -51,7 +50,7 @@ module _ (e : Edge) (offset : ℕ) (points : List ℕ) where
 
       pub look_hit :
           (axis : FlowAxis) (r : LowCorner) → axis ≡ e.flow_axis → is_low_lem ≡ true → r ≡ corner_at axis offset k leg →
-          r ≡ corner_of e offset points (low_leg e offset points)
+          Some r ≡ corner_of e offset points (low_leg e offset points)
       unfolding corner_of
       look_hit axis r a z q =
           rw (q, a, l, ← search_hit (leg_low e offset points) (point_count points + 1) _ k left (omega arith) (sym here ∙ z))
@@ -59,17 +58,17 @@ module _ (e : Edge) (offset : ℕ) (points : List ℕ) where
       pub look_on : is_low_lem ≡ false → Looked (k + 1)
       look_on z = search_on (leg_low e offset points) (point_count points + 1) _ k left (omega arith) (sym here ∙ z)
 
-    pub look_done : count < k → low.None ≡ corner_of e offset points (low_leg e offset points)
+    pub look_done : count < k → None ≡ corner_of e offset points (low_leg e offset points)
     unfolding corner_of
     look_done h = rw (← search_done (leg_low e offset points) (point_count points + 1) _ k left (omega arith))
 
 -- An edge with another path, and a MultiSegment.
 module _ (path : Path) (e : Edge) (points : List ℕ) where
-  pub low_none : ((span : Span) (offset : ℕ) → path ≡ MultiSegment span offset → ⊥) → low.None ≡ low_of path e points
+  pub low_none : ((span : Span) (offset : ℕ) → path ≡ MultiSegment span offset → ⊥) → None ≡ low_of path e points
   unfolding low_of
   low_none k = by_path path k
     where
-      by_path : (q : Path) → ((span : Span) (offset : ℕ) → q ≡ MultiSegment span offset → ⊥) → low.None ≡ low_of q e points
+      by_path : (q : Path) → ((span : Span) (offset : ℕ) → q ≡ MultiSegment span offset → ⊥) → None ≡ low_of q e points
       by_path Direct k = refl
       by_path (Corner bend) k = refl
       by_path (SideChannel channel start end) k = refl
@@ -78,7 +77,7 @@ module _ (path : Path) (e : Edge) (points : List ℕ) where
       by_path Spline k = refl
 
   pub low_multi :
-      (span : Span) (offset : ℕ) (r : LowCorner) →
+      (span : Span) (offset : ℕ) (r : Option LowCorner) →
       path ≡ MultiSegment span offset →
       r ≡ corner_of e offset points (low_leg e offset points) →
       r ≡ low_of path e points

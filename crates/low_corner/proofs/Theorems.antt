@@ -1,12 +1,12 @@
 -- What is told of a corner is what code 6 refuses, and the corner lies below 0 by as much as it is told.
+use Rattle.std.specs.Prelude.{Option, Some, None}
 use native.Mathlib.Omega.{arith}
 use Prim.Native.Nat.{ℕ, ◌+◌, ◌<◌}
 use mathlib.Core.Bool.{Bool, true, false, not, ◌&&◌}
 use mathlib.Core.List.{List}
 use mathlib.Core.Path.{◌≡◌, refl, ◌∙◌}
 use lib.Dec.{eqb}
-use Rattle.ground.specs.declared.Found.{Found}
-use Rattle.ground.specs.declared.Found.TheVariants as found
+use Rattle.std.specs.Prelude.{Option, Some, None}
 use Rattle.ground.proofs.Order.{by_order}
 use Rattle.image.specs.declared.Edge.{Edge}
 use Rattle.image.specs.declared.FlowAxis.{FlowAxis}
@@ -22,17 +22,16 @@ use Rattle.x_flow.specs.XFlow.{sign_x, corner_column}
 use Rattle.path.specs.Corners.{is_below, leg_below, multi_below, below_of}
 use Rattle.elements.proofs.Laws.{is_found, some_found}
 use Rattle.low_corner.specs.declared.LowCorner.{LowCorner}
-use Rattle.low_corner.specs.declared.LowCorner.TheVariants as low
 use Rattle.low_corner.specs.Low.{leg_low, low_leg, leg_start, corner_at, corner_of, low_of}
 
-abbrev pub is_low : LowCorner → Bool
-is_low low.None = false
-is_low (low.At axis leg start steps) = true
+abbrev pub is_low : Option LowCorner → Bool
+is_low None = false
+is_low (Some corner) = true
 
-corner_found : (e : Edge) (offset : ℕ) (points : List ℕ) (leg : Found) → is_found leg ≡ is_low (corner_of e offset points leg)
+corner_found : (e : Edge) (offset : ℕ) (points : List ℕ) (leg : Option ℕ) → is_found leg ≡ is_low (corner_of e offset points leg)
 unfolding corner_of corner_at
-corner_found e offset points found.None = refl
-corner_found e offset points (found.At k) = refl
+corner_found e offset points None = refl
+corner_found e offset points (Some k) = refl
 
 -- Code 6 refuses an edge exactly when such a corner is found.
 pub low_told : (path : Path) (e : Edge) (points : List ℕ) → below_of path e points ≡ is_low (low_of path e points)

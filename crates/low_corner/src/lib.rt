@@ -14,22 +14,17 @@ use flow::Leg;
 use image::{Edge, FlowAxis, Path};
 use orthogonal::points::path_point;
 
-// The first corner of an edge that lies below 0.
+// A corner of an edge that lies below 0: `steps` cells against the axis from the start of its leg.
 #[derive(Clone, Copy)]
-pub enum LowCorner {
-    // there is none
-    None,
-    // it lies `steps` cells against the axis from the start of its leg
-    At {
-        // along which axis the edge flows: Y, and a corner has a row; X, and it has a column
-        axis: FlowAxis,
-        // which leg, the one from the source being leg 0
-        leg: usize,
-        // the row, on X flow the column, on which the leg starts
-        start: usize,
-        // how many rows or columns further the corner lies
-        steps: usize,
-    },
+pub struct LowCorner {
+    // along which axis the edge flows: Y, and a corner has a row; X, and it has a column
+    pub axis: FlowAxis,
+    // which leg, the one from the source being leg 0
+    pub leg: usize,
+    // the row, on X flow the column, on which the leg starts
+    pub start: usize,
+    // how many rows or columns further the corner lies
+    pub steps: usize,
 }
 
 // Leg k of a path through points.
@@ -56,8 +51,8 @@ fn leg_start(axis: FlowAxis, leg: Leg) -> usize
 fn corner_at(axis: FlowAxis, offset: u32, k: usize, leg: Leg) -> LowCorner
     ensures { result ≡ corner_at axis offset k leg }
 {
-    LowCorner::At {
-        axis: axis,
+    LowCorner {
+        axis,
         leg: k,
         start: leg_start(axis, leg),
         steps: flow::corner_steps(offset, leg),
@@ -65,24 +60,22 @@ fn corner_at(axis: FlowAxis, offset: u32, k: usize, leg: Leg) -> LowCorner
 }
 
 // The corner of the first leg of a MultiSegment that has one below 0.
-fn low_leg(e: Edge, offset: u32, points: &[u32]) -> LowCorner
+fn low_leg(e: Edge, offset: u32, points: &[u32]) -> Option<LowCorner>
     ensures { result ≡ corner_of e offset points.now (low_leg e offset points.now) }
 {
     let axis = e.flow_axis;
     let count = image::point_count(points);
-    let mut k: usize = 0;
-    while k <= count {
+    for k in 0..count + 1 {
         let leg = leg_of(e, points, k);
         if path::below::leg_below(e, offset, leg) {
-            return corner_at(axis, offset, k, leg);
+            return Some(corner_at(axis, offset, k, leg));
         }
-        k += 1;
     }
-    LowCorner::None
+    None
 }
 
 // The first corner of an edge that lies below 0.
-fn low_in(e: Edge, points: &[u32]) -> LowCorner
+fn low_in(e: Edge, points: &[u32]) -> Option<LowCorner>
     ensures { result ≡ low_corner e points.now }
 {
     let path = e.path;
@@ -91,13 +84,13 @@ fn low_in(e: Edge, points: &[u32]) -> LowCorner
         start_offset,
     } = path
     else {
-        return LowCorner::None;
+        return None;
     };
     low_leg(e, start_offset, points)
 }
 
 // The first corner of edge k that lies below 0.
-pub fn low_corner(image: &[u32], k: usize) -> LowCorner
+pub fn low_corner(image: &[u32], k: usize) -> Option<LowCorner>
     requires { k < 4294967296 }
     ensures { result ≡ low_corner (edge_at image.now (tables_of image.now).edges k) (edge_points image.now (tables_of image.now) k) }
 {

@@ -63,17 +63,15 @@ pub fn draw_multi(
     let count = image::point_count(points);
     let mut now_kept = kept;
     let mut a = points::source_point(e);
-    let mut k: usize = 0;
-    while k < count {
+    for k in 0..count {
         let b = image::point_at(points, k);
         let leg = legs::leg_between(a, b, k == 0, false);
         now_kept = draw_leg(
             cells, colours, stamps, scratch, ranges, pen, e, now_kept, offset, leg,
         );
         a = b;
-        k += 1;
     }
-    let leg = legs::leg_between(a, points::target_point(e), k == 0, true);
+    let leg = legs::leg_between(a, points::target_point(e), count == 0, true);
     draw_leg(
         cells, colours, stamps, scratch, ranges, pen, e, now_kept, offset, leg,
     )

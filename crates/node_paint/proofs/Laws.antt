@@ -1,10 +1,10 @@
 -- Nodes painted in a window: a marker, no self-loop, and a node as it looks.
+use Rattle.std.specs.Prelude.{Option, None}
 use Prim.Native.Nat.{ℕ}
 use mathlib.Core.List.{List, [], ◌∷◌}
 use mathlib.Core.Path.{◌≡◌, sym}
 use Rattle.image.specs.declared.Node.{Node}
-use Rattle.image.specs.declared.SelfLoop.{SelfLoop}
-use Rattle.image.specs.declared.SelfLoop.TheVariants as loop
+use Rattle.image.specs.declared.Point.{Point}
 use Rattle.rows.specs.declared.Window.{Window}
 use Rattle.rows.specs.Spots.{Ink, Spot, at}
 use Rattle.window.specs.declared.Tint.{Tint}
@@ -26,7 +26,7 @@ module _ (v : Window) (ranges : List ℕ) (tint : Tint) where
   inked_at x y x' y' ink c d e f p = rw (← e, ← f) p
 
   -- no self-loop
-  pub no_loop : (l : SelfLoop) (c : Canvas) → l ≡ loop.None → Inked (loop_spots l) c c
+  pub no_loop : (l : Option Point) (c : Canvas) → l ≡ None → Inked (loop_spots l) c c
   no_loop l c e = rw e (sym (ink_none v ranges c))
 
   -- a node that looks so; a box and a label between brackets are followed by the self-loop

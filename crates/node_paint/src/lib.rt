@@ -8,7 +8,7 @@ ghost use Rattle.frame.specs.Nodes.{dummy_spots, loop_spots, look_spots, node_sp
 
 use cell::{Dir, MarkerKind};
 use frame::Look;
-use image::{Node, SelfLoop};
+use image::{Node, Point};
 use rows::Window;
 use window::{Lent, Tint};
 
@@ -20,13 +20,13 @@ fn paint_loop(
     lent: Lent,
     ranges: &[u32],
     v: Window,
-    at: SelfLoop,
+    at: Option<Point>,
     tint: Tint,
 )
     requires { Ready lent v cells.old colours.old stamps.old }
     ensures { canvas_of lent cells.new colours.new stamps.new ≡ ink_window v ranges.now (tinted tint (loop_spots at)) (canvas_of lent cells.old colours.old stamps.old) }
 {
-    let SelfLoop::At { x, y } = at else {
+    let Some(point) = at else {
         return;
     };
     window::marker_at(
@@ -36,8 +36,8 @@ fn paint_loop(
         lent,
         ranges,
         v,
-        ground::number(x),
-        ground::number(y),
+        ground::number(point.x),
+        ground::number(point.y),
         MarkerKind::SelfLoop,
         Dir::Up,
         false,

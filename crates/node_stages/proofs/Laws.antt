@@ -1,4 +1,5 @@
 -- A placed label and a node painted, and passed over; and that all glyphs of a placed label stand on its row.
+use Rattle.std.specs.Prelude.{Option, Some, None}
 use Prim.Native.Nat.{ℕ, ◌+◌, ◌≤◌, ◌<◌}
 use mathlib.Core.Bool.{Bool, true, false, not}
 use mathlib.Core.List.{List}
@@ -12,8 +13,6 @@ use Rattle.image.specs.declared.Header.{Header}
 use Rattle.image.specs.declared.Node.{Node}
 use Rattle.image.specs.declared.Span.{Span}
 use Rattle.image.specs.declared.Edge.{Edge}
-use Rattle.image.specs.declared.EdgeLabel.{EdgeLabel}
-use Rattle.image.specs.declared.EdgeLabel.TheVariants as label
 use Rattle.image.specs.declared.LabelPolicy.{LabelPolicy}
 use Rattle.image.specs.declared.PlacedLabel.{PlacedLabel}
 use Rattle.image.specs.declared.ElementKind.TheVariants as kind
@@ -40,11 +39,11 @@ use Rattle.stage.proofs.Laws.{unmarked_touches, stage_next}
 -- all glyphs of a placed label stand on its row
 label_off :
     (ranges : List ℕ) (p : PlacedLabel) (y : ℕ) → (p.y ≡ y → ⊥) →
-    (policy : LabelPolicy) (l : EdgeLabel) (glyphs : List ℕ) →
+    (policy : LabelPolicy) (l : Option Span) (glyphs : List ℕ) →
     touches ranges (placed_label_spots policy ranges p l glyphs) y ≡ false
 unfolding placed_label_spots touches some
-label_off ranges p y off policy label.None glyphs = refl
-label_off ranges p y off policy (label.Present span) glyphs =
+label_off ranges p y off policy None glyphs = refl
+label_off ranges p y off policy (Some span) glyphs =
     by_bool (paints_under policy p) (λ t. rw t (text_off ranges p.x p.y (quoted glyphs) y off)) (λ t. rw t)
 
 module _ (image : List ℕ) (ts : Tables) (v : Window) (marks ranges : List ℕ) (staged : Staged image ts v marks ranges) (k : ℕ) where
@@ -106,13 +105,13 @@ module _ (image : List ℕ) (ts : Tables) (v : Window) (marks ranges : List ℕ)
     unfolding placed_label_writes
     writes_of = rw (← at, ← i, ← of)
 
-    pub label_absent : e.label ≡ label.None → Inked (placed_label_writes image ts k) c c
+    pub label_absent : e.label ≡ None → Inked (placed_label_writes image ts k) c c
     unfolding placed_label_spots
     label_absent none = rw (← writes_of, none) (sym (ink_none v ranges c))
 
     module _
         (h : Header) (span : Span) (paints : Bool)
-        (s : h ≡ header_of image) (present : e.label ≡ label.Present span) (asked : paints ≡ paints_under h.policy p) where
+        (s : h ≡ header_of image) (present : e.label ≡ Some span) (asked : paints ≡ paints_under h.policy p) where
       pub label_left_out : paints ≡ false → Inked (placed_label_writes image ts k) c c
       unfolding placed_label_spots
       label_left_out refused = rw (← writes_of, present, ← s, ← asked, refused) (sym (ink_none v ranges c))

@@ -10,10 +10,10 @@ ghost use Rattle.stage.specs.Staged.{Staged};
 ghost use Rattle.picture.specs.Writes.{placed_label_writes, placed_labels, node_writes, nodes};
 
 use frame_paint::labels;
-use image::{EdgeLabel, ElementKind};
+use image::ElementKind;
 use layout::Tables;
 use rows::Window;
-use window::{Lent, Paint, Tint};
+use window::{Lent, Tint};
 
 // The row of placed label k.
 fn label_row(image: &[u32], ts: Tables, k: usize) -> usize
@@ -42,7 +42,7 @@ fn paint_label_text(
     let placed = image::placed_label_at(image, ts.labels, k);
     let edge = image::edge_at(image, ts.edges, ground::number(placed.edge));
     let label = edge.label;
-    let EdgeLabel::Present(span) = label else {
+    let Some(span) = label else {
         return;
     };
     let header = image::header_of(image);
@@ -50,8 +50,8 @@ fn paint_label_text(
     if labels::paints_under(policy, placed) {
         let glyphs = image::span_words(image, ts.glyphs, span);
         let tint = Tint {
-            colour: Paint::Set(edge.label_colour),
-            stamp: Paint::Keep,
+            colour: Some(edge.label_colour),
+            stamp: None,
         };
         let x = ground::number(placed.x);
         let y = ground::number(placed.y);
@@ -98,7 +98,7 @@ fn paint_node(
     requires { Staged image.now ts v marks.now ranges.now × Ready lent v cells.old colours.old stamps.old × (k < ts.nodes.count) }
     ensures { canvas_of lent cells.new colours.new stamps.new ≡ ink_window v ranges.now (node_writes image.now ts k) (canvas_of lent cells.old colours.old stamps.old) }
 {
-    let kind = image::element_kind_number(ElementKind::Node);
+    let kind = u32::from(ElementKind::Node);
     if stage::is_marked(marks, kind, k) {
         let table = ts.nodes;
         let n = image::node_at(image, table, k);
@@ -107,8 +107,8 @@ fn paint_node(
         let header = image::header_of(image);
         let show = header.show_dummies;
         let tint = Tint {
-            colour: Paint::Set(0),
-            stamp: Paint::Keep,
+            colour: Some(0),
+            stamp: None,
         };
         node_paint::paint_node(
             cells, colours, stamps, lent, ranges, v, show, n, label, tint,
@@ -132,10 +132,8 @@ pub fn paint_placed_labels(
     ensures { canvas_of lent cells.new colours.new stamps.new ≡ ink_window v ranges.now (placed_labels image.now ts) (canvas_of lent cells.old colours.old stamps.old) }
 {
     let count = ts.labels.count;
-    let mut k: usize = 0;
-    while k < count {
+    for k in 0..count {
         paint_placed_label(image, ts, v, lent, ranges, marks, cells, colours, stamps, k);
-        k += 1;
     }
 }
 
@@ -154,9 +152,10 @@ pub fn paint_nodes(
     requires { Staged image.now ts v marks.now ranges.now × Ready lent v cells.old colours.old stamps.old }
     ensures { canvas_of lent cells.new colours.new stamps.new ≡ ink_window v ranges.now (nodes image.now ts) (canvas_of lent cells.old colours.old stamps.old) }
 {
-    let kind = image::element_kind_number(ElementKind::Node);
+    let kind = u32::from(ElementKind::Node);
     let count = ts.nodes.count;
     let mut k: usize = 0;
+    // the marks say where to go on, and not a range
     while k < count {
         paint_node(image, ts, v, lent, ranges, marks, cells, colours, stamps, k);
         k = stage::next_marked(marks, kind, k + 1, count);

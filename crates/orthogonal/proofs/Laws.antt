@@ -1,4 +1,5 @@
 -- The points of a path, and what a leg of an Orthogonal path draws, by their cases.
+use Rattle.std.specs.Prelude.{Option, Some, None}
 use native.Mathlib.Omega.{arith}
 use Prim.Native.Nat.{ℕ, ◌+◌, ◌-◌, ◌≤◌, ◌<◌}
 use mathlib.Core.Path.{◌≡◌, sym, ◌∙◌}
@@ -7,14 +8,12 @@ use mathlib.Core.List.{List}
 use borrow.Author.Tests.{eq-eqb, ne_eqb, le-leb, lt-leb, lt-ltb, le-ltb}
 use Rattle.image.specs.declared.Edge.{Edge}
 use Rattle.image.specs.declared.Point.{Point}
-use Rattle.cell.specs.declared.Dir.{Dir}
 use Rattle.cell.specs.declared.Dir.TheVariants.{Up, Down, Left, Right}
 use Rattle.cell.specs.declared.Weight.{Weight}
 use Rattle.flow.specs.declared.Piece.{Piece}
 use Rattle.flow.specs.declared.Piece.TheVariants.{Nothing, Mark}
 use Rattle.orthogonal.specs.declared.PathLeg.{PathLeg}
 use Rattle.orthogonal.specs.declared.EndMark.{EndMark}
-use Rattle.orthogonal.specs.declared.EndMark.TheVariants as end
 use Rattle.image.specs.Spans.{point_count, point_at}
 use Rattle.orthogonal.specs.Points.{source, target, path_point}
 use Rattle.orthogonal.specs.Orthogonal.{toward, straight, long, inside, mark_facing, end_mark, mark_or, column_line, row_line, leg_line, bend_piece, leg_bend_piece}
@@ -67,51 +66,51 @@ module _ (a t : Point) where
 -- The marker of one end: not wanted, on a slanted leg, inside a long leg, on the only leg, and at the bend.
 
 module _ (wanted only : Bool) (at next : Point) where
-  pub end_unwanted : wanted ≡ false → end.None ≡ end_mark wanted only at next
+  pub end_unwanted : wanted ≡ false → None ≡ end_mark wanted only at next
   unfolding end_mark
   end_unwanted p = rw p
 
   module _ (along : Bool) (p : wanted ≡ true) (s : along ≡ straight at next) where
-    pub end_slanted : along ≡ false → end.None ≡ end_mark wanted only at next
+    pub end_slanted : along ≡ false → None ≡ end_mark wanted only at next
     unfolding end_mark
     end_slanted q = rw (p, ← s, q)
 
     module _ (far : Bool) (q : along ≡ true) (t : far ≡ long at next) where
-      pub end_inside : (cell : Point) (r : EndMark) → far ≡ true → cell ≡ inside at next → r ≡ mark_facing cell at → r ≡ end_mark wanted only at next
+      pub end_inside : (cell : Point) (r : EndMark) → far ≡ true → cell ≡ inside at next → r ≡ mark_facing cell at → Some r ≡ end_mark wanted only at next
       unfolding end_mark
-      end_inside cell r l i e = rw (p, ← s, q, ← t, l, ← i) e
+      end_inside cell r l i e = rw (p, ← s, q, ← t, l, ← i, e)
 
-      pub end_only : far ≡ false → only ≡ true → end.None ≡ end_mark wanted only at next
+      pub end_only : far ≡ false → only ≡ true → None ≡ end_mark wanted only at next
       unfolding end_mark
       end_only l o = rw (p, ← s, q, ← t, l, o)
 
-      pub end_bend : (r : EndMark) → far ≡ false → only ≡ false → r ≡ mark_facing next at → r ≡ end_mark wanted only at next
+      pub end_bend : (r : EndMark) → far ≡ false → only ≡ false → r ≡ mark_facing next at → Some r ≡ end_mark wanted only at next
       unfolding end_mark
-      end_bend r l o e = rw (p, ← s, q, ← t, l, o) e
+      end_bend r l o e = rw (p, ← s, q, ← t, l, o, e)
 
 -- The marker in a cell, or else what is drawn there.
 
-module _ (mark : EndMark) (x y : ℕ) (other : Piece) where
-  pub mark_none : mark ≡ end.None → other ≡ mark_or mark x y other
+module _ (mark : Option EndMark) (x y : ℕ) (other : Piece) where
+  pub mark_none : mark ≡ None → other ≡ mark_or mark x y other
   unfolding mark_or
   mark_none m = rw m
 
-  module _ (column row : ℕ) (dir : Dir) (m : mark ≡ end.At column row dir) where
-    pub mark_here : column ≡ x → row ≡ y → Mark x y dir ≡ mark_or mark x y other
+  module _ (here : EndMark) (m : mark ≡ Some here) where
+    pub mark_here : here.x ≡ x → here.y ≡ y → Mark x y here.dir ≡ mark_or mark x y other
     unfolding mark_or
     mark_here p q = rw (m, eq-eqb _ _ p, eq-eqb _ _ q)
 
-    pub mark_beside : (column ≡ x → ⊥) → other ≡ mark_or mark x y other
+    pub mark_beside : (here.x ≡ x → ⊥) → other ≡ mark_or mark x y other
     unfolding mark_or
     mark_beside p = rw (m, ne_eqb _ _ p)
 
-    pub mark_above : column ≡ x → (row ≡ y → ⊥) → other ≡ mark_or mark x y other
+    pub mark_above : here.x ≡ x → (here.y ≡ y → ⊥) → other ≡ mark_or mark x y other
     unfolding mark_or
     mark_above p q = rw (m, eq-eqb _ _ p, ne_eqb _ _ q)
 
 -- What a leg draws.
 
-module _ (target source : EndMark) (leg : PathLeg) (r : Piece) where
+module _ (target source : Option EndMark) (leg : PathLeg) (r : Piece) where
   -- its interior, along a column, along a row, and slanted
 
   pub on_column : leg.from.x ≡ leg.to.x → r ≡ column_line target source leg.from leg.to → r ≡ leg_line target source leg

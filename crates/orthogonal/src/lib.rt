@@ -9,29 +9,31 @@ pub mod walk;
 
 // An arrow of an Orthogonal path.
 #[derive(Clone, Copy)]
-pub enum EndMark {
-    // no arrow
-    None,
-    // an arrow in the cell (x, y), pointing in the direction
-    At { x: usize, y: usize, dir: Dir },
+pub struct EndMark {
+    // its column
+    pub x: usize,
+    // its row
+    pub y: usize,
+    // which way it points
+    pub dir: Dir,
 }
 
 // The two arrows of an Orthogonal path.
 #[derive(Clone, Copy)]
 pub struct EndMarks {
     // the arrow at the source's end
-    pub source: EndMark,
+    pub source: Option<EndMark>,
     // the arrow at the target's end, which wins
-    pub target: EndMark,
+    pub target: Option<EndMark>,
 }
 
 // A stop of an Orthogonal path: a point that differs from the stop before it.
 #[derive(Clone, Copy)]
-pub enum Stop {
-    // the stop, and the number of the point after it
-    At { point: Point, next: usize },
-    // no point is left that differs
-    End,
+pub struct Stop {
+    // where it lies
+    pub point: Point,
+    // the number of the point after it
+    pub next: usize,
 }
 
 // A leg of an Orthogonal path.
@@ -56,17 +58,8 @@ pub struct Cursor {
     pub before: Point,
     // the stop at which it stands, where the next leg starts
     pub stop: Point,
-    // the stop to which the next leg goes
-    pub ahead: Stop,
+    // the stop to which the next leg goes, where a point is left that differs
+    pub ahead: Option<Stop>,
     // whether it stands at the source
     pub first: bool,
-}
-
-// "a step that hands back the next leg by value"
-#[derive(Clone, Copy)]
-pub enum Step {
-    // the next leg, and the cursor past it
-    Leg(PathLeg, Cursor),
-    // no leg is left
-    Done,
 }

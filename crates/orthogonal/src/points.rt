@@ -38,5 +38,5 @@ pub fn path_point(e: Edge, points: &[u32], k: usize) -> Point
 pub fn same_point(a: Point, b: Point) -> bool
     ensures { result ≡ same_point a b }
 {
-    if a.x == b.x { a.y == b.y } else { false }
+    a.x == b.x && a.y == b.y
 }

@@ -1,28 +1,22 @@
 // The walk along an Orthogonal path: its legs handed back one by one. It looks one stop ahead, so that each point is read once.
 ghost use Rattle.std.specs.Prelude.{◌≡◌};
-ghost use Rattle.orthogonal.specs.Walk.{next_stop, begin_walk, is_end, step_of};
+ghost use Rattle.orthogonal.specs.Walk.{next_stop, begin_walk, step_of};
 
-use crate::{Cursor, PathLeg, Step, Stop, points};
+use crate::{Cursor, PathLeg, Stop, points};
 use image::{Edge, Point};
 
 // The first point from k on that differs from a: "skip repeated points".
-fn next_stop(e: Edge, points: &[u32], a: Point, k: usize) -> Stop
+fn next_stop(e: Edge, points: &[u32], a: Point, k: usize) -> Option<Stop>
     ensures { result ≡ next_stop e points.now a k }
 {
     let end = image::point_count(points) + 2;
-    let mut i = k;
-    while i < end {
-        let p = points::path_point(e, points, i);
-        if points::same_point(a, p) {
-            i += 1;
-        } else {
-            return Stop::At {
-                point: p,
-                next: i + 1,
-            };
+    for i in k..end {
+        let point = points::path_point(e, points, i);
+        if !points::same_point(a, point) {
+            return Some(Stop { point, next: i + 1 });
         }
     }
-    Stop::End
+    None
 }
 
 // A cursor at the source.
@@ -38,39 +32,26 @@ pub fn begin_walk(e: Edge, points: &[u32]) -> Cursor
     }
 }
 
-fn is_end(stop: Stop) -> bool
-    ensures { result ≡ is_end stop }
-{
-    if let Stop::End = stop { true } else { false }
-}
-
 impl Cursor {
-    // The next leg and the cursor past it.
-    pub fn step(self, e: Edge, points: &[u32]) -> Step
+    // The next leg and the cursor past it: "a step that hands back the next leg by value".
+    pub fn step(self, e: Edge, points: &[u32]) -> Option<(PathLeg, Cursor)>
         ensures { result ≡ step_of e points.now self }
     {
-        let ahead = self.ahead;
-        let Stop::At { point, next } = ahead else {
-            return Step::Done;
-        };
+        let Stop { point, next } = self.ahead?;
         let after = next_stop(e, points, point, next);
-        let before = self.before;
-        let stop = self.stop;
         let leg = PathLeg {
-            before: before,
-            from: stop,
+            before: self.before,
+            from: self.stop,
             to: point,
             first: self.first,
-            last: is_end(after),
+            last: after.is_none(),
         };
-        Step::Leg(
-            leg,
-            Cursor {
-                before: stop,
-                stop: point,
-                ahead: after,
-                first: false,
-            },
-        )
+        let past = Cursor {
+            before: self.stop,
+            stop: point,
+            ahead: after,
+            first: false,
+        };
+        Some((leg, past))
     }
 }

@@ -1,4 +1,5 @@
 -- Drawing an Orthogonal path: a leg's bend is a cell and its interior a line, and its legs are drawn one by one along the walk.
+use Rattle.std.specs.Prelude.{Option, Some, None}
 use native.Mathlib.Omega.{arith}
 use Prim.Native.Nat.{ℕ, ◌+◌, ◌-◌}
 use mathlib.Core.Bool.{◌&&◌}
@@ -13,9 +14,7 @@ use Rattle.image.specs.declared.Edge.{Edge}
 use Rattle.flow.specs.declared.Piece.{Piece}
 use Rattle.orthogonal.specs.declared.PathLeg.{PathLeg}
 use Rattle.orthogonal.specs.declared.Cursor.{Cursor}
-use Rattle.orthogonal.specs.declared.Step.TheVariants as step
 use Rattle.orthogonal.specs.declared.EndMark.{EndMark}
-use Rattle.orthogonal.specs.declared.EndMark.TheVariants as end
 use Rattle.orthogonal.specs.declared.EndMarks.{EndMarks}
 use Rattle.orthogonal.specs.Points.{stops, leg_count}
 use Rattle.orthogonal.specs.Orthogonal.{column_line, row_line, leg_line, mark_or, bend_piece, leg_bend_piece, leg_pieces, path_leg, source_mark, target_mark, end_marks, pieces_along, orthogonal_pieces}
@@ -31,19 +30,19 @@ use Rattle.draw.proofs.Laws.{inked_then, inked_none, ready_then}
 
 -- A leg's bend is a cell, its interior a line.
 
-mark_is_cell : (mark : EndMark) (x y : ℕ) (p : Piece) → CellPiece p → CellPiece (mark_or mark x y p)
+mark_is_cell : (mark : Option EndMark) (x y : ℕ) (p : Piece) → CellPiece p → CellPiece (mark_or mark x y p)
 unfolding mark_or CellPiece
-mark_is_cell end.None x y p h = h
-mark_is_cell (end.At column row dir) x y p h = cond_holds CellPiece (eqb column x && eqb row y) tt h
+mark_is_cell None x y p h = h
+mark_is_cell (Some m) x y p h = cond_holds CellPiece (eqb m.x x && eqb m.y y) tt h
 
-pub bend_is_cell : (w : Weight) (target source : EndMark) (leg : PathLeg) (p : Piece) → p ≡ leg_bend_piece w target source leg → CellPiece p
+pub bend_is_cell : (w : Weight) (target source : Option EndMark) (leg : PathLeg) (p : Piece) → p ≡ leg_bend_piece w target source leg → CellPiece p
 unfolding leg_bend_piece bend_piece CellPiece
 bend_is_cell w target source leg p h =
     rw h
     (cond_holds CellPiece leg.first tt
     (mark_is_cell target leg.from.x leg.from.y _ (mark_is_cell source leg.from.x leg.from.y _ tt)))
 
-pub interior_is_line : (target source : EndMark) (leg : PathLeg) (p : Piece) → p ≡ leg_line target source leg → LinePiece p
+pub interior_is_line : (target source : Option EndMark) (leg : PathLeg) (p : Piece) → p ≡ leg_line target source leg → LinePiece p
 unfolding leg_line column_line row_line LinePiece
 interior_is_line target source leg p h =
     rw h
@@ -51,7 +50,7 @@ interior_is_line target source leg p h =
 
 -- drawn one after the other, they are the leg's pieces
 pub leg_inked :
-    (pen : Pen) (ranges : List ℕ) (target source : EndMark) (leg : PathLeg) (w : Weight) (bend line : Piece) (a b c : Canvas) →
+    (pen : Pen) (ranges : List ℕ) (target source : Option EndMark) (leg : PathLeg) (w : Weight) (bend line : Piece) (a b c : Canvas) →
     bend ≡ leg_bend_piece w target source leg →
     line ≡ leg_line target source leg →
     Inked pen ranges (bend ∷ []) a b →
@@ -93,7 +92,7 @@ module _ (pen : Pen) (ranges : List ℕ) (e : Edge) (points : List ℕ) (start :
   legs_from k = each (numbers k (legs - k)) pieces_at
 
   -- The walk stands before leg k, these are the path's arrows, drawing can go on, and whatever the legs from k on make of this, all of them make of the start.
-  pub record WalkInked (target source : EndMark) (c : Cursor) (cells colours stamps : List ℕ) : Type 0 where
+  pub record WalkInked (target source : Option EndMark) (c : Cursor) (cells colours stamps : List ℕ) : Type 0 where
     pub k : ℕ
     pub stands : Stands e points k c
     pub target_is : target ≡ target_mark e (stops e points)
@@ -122,10 +121,10 @@ module _ (pen : Pen) (ranges : List ℕ) (e : Edge) (points : List ℕ) (start :
       all = λ z d. rw (numbers_whole legs, s) at d;
     }
 
-    module _ (target source : EndMark) (c : Cursor) (walk : WalkInked target source c cells colours stamps) where
+    module _ (target source : Option EndMark) (c : Cursor) (walk : WalkInked target source c cells colours stamps) where
       pub walk_inked_turns :
           (leg : PathLeg) (past : Cursor) (w : Weight) (cells' colours' stamps' : List ℕ) →
-          step_of e points c ≡ step.Leg leg past →
+          step_of e points c ≡ Some (leg, past) →
           w ≡ e.weight →
           Inked pen ranges (leg_pieces w target source leg) (canvas_of pen.lent cells colours stamps) (canvas_of pen.lent cells' colours' stamps') →
           WalkInked target source past cells' colours' stamps'
@@ -146,7 +145,7 @@ module _ (pen : Pen) (ranges : List ℕ) (e : Edge) (points : List ℕ) (start :
           }
 
       pub walk_inked_ends :
-          step_of e points c ≡ step.Done →
+          step_of e points c ≡ None →
           Inked pen ranges (orthogonal_pieces e points) start (canvas_of pen.lent cells colours stamps)
       unfolding pieces_along
       walk_inked_ends s =

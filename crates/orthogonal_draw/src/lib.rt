@@ -8,7 +8,7 @@ ghost use Rattle.draw.specs.Drawn.{Inked};
 
 use draw::{Pen, draw_cell, draw_line};
 use image::Edge;
-use orthogonal::{EndMark, PathLeg, Step, walk};
+use orthogonal::{EndMark, PathLeg, walk};
 
 // The bend at a leg's start, then its interior.
 fn draw_leg(
@@ -17,8 +17,8 @@ fn draw_leg(
     stamps: &mut [u32],
     ranges: &[u32],
     pen: Pen,
-    target: EndMark,
-    source: EndMark,
+    target: Option<EndMark>,
+    source: Option<EndMark>,
     leg: PathLeg,
 )
     requires { Ready pen.lent pen.window cells.old colours.old stamps.old }
@@ -48,11 +48,7 @@ pub fn draw_orthogonal(
     let target = marks.target;
     let source = marks.source;
     let mut cursor = walk::begin_walk(e, points);
-    loop {
-        let step = cursor.step(e, points);
-        let Step::Leg(leg, next) = step else {
-            return;
-        };
+    while let Some((leg, next)) = cursor.step(e, points) {
         draw_leg(cells, colours, stamps, ranges, pen, target, source, leg);
         cursor = next;
     }

@@ -1,4 +1,5 @@
 -- The rows of an Orthogonal path, point by point and without its arrows, are the rows of its pieces.
+use Rattle.std.specs.Prelude.{Option, Some, None}
 use native.Mathlib.Omega.{arith}
 use native.Mathlib.Numerals.{add-one}
 use Prim.Native.Nat.{ℕ, suc, ◌+◌, ◌-◌, ◌<◌, ◌≤◌}
@@ -11,7 +12,6 @@ use borrow.Author.Tests.{eq-eqb, ne_eqb}
 use Rattle.ground.specs.Each.{numbers, each}
 use Rattle.ground.proofs.Each.{by_bool, numbers_step}
 use Rattle.rows.specs.declared.Rows.{Rows}
-use Rattle.rows.specs.declared.Rows.TheVariants as rows
 use Rattle.rows.specs.declared.Window.{Window}
 use Rattle.rows.specs.Window.{join_rows}
 use Rattle.rows.specs.Computed.{window_rows}
@@ -26,7 +26,6 @@ use Rattle.flow.specs.Pieces.{piece_runs_in}
 use Rattle.flow.specs.Reach.{piece_rows, vertical_rows, horizontal_rows, piece_reach, join_reach, reach_of}
 use Rattle.orthogonal.specs.declared.PathLeg.{PathLeg}
 use Rattle.orthogonal.specs.declared.EndMark.{EndMark}
-use Rattle.orthogonal.specs.declared.EndMark.TheVariants as end
 use Rattle.orthogonal_reach.specs.declared.Passed.{Passed}
 use Rattle.image.specs.Spans.{point_count, point_at}
 use Rattle.orthogonal.specs.Points.{source, target, path_point, path_points, same_point, stops_after, stops, leg_count}
@@ -37,7 +36,7 @@ use Rattle.orthogonal.proofs.Laws.{between_point, last_point}
 use Rattle.orthogonal.proofs.Walked.{part_head, part_tail}
 
 -- rows, and no runs
-abbrev only_rows : Rows → Reach
+abbrev only_rows : Option Rows → Reach
 only_rows r = record { rows = r; runs = 0 }
 
 -- The rows of a leg's two pieces are the same with any arrows.
@@ -45,16 +44,16 @@ only_rows r = record { rows = r; runs = 0 }
 module _ (window : Window) where
   -- a marker in a cell touches the row that what is drawn there touches
   marked :
-      (mark : EndMark) (x y : ℕ) (p : Piece) →
+      (mark : Option EndMark) (x y : ℕ) (p : Piece) →
       piece_reach window p ≡ only_rows (window_rows window y y) →
       piece_reach window (mark_or mark x y p) ≡ only_rows (window_rows window y y)
   unfolding mark_or piece_rows piece_runs_in piece_reach
-  marked end.None x y p h = h
-  marked (end.At column row dir) x y p h = by_bool (eqb column x && eqb row y) (λ t. rw t) (λ t. rw t h)
+  marked None x y p h = h
+  marked (Some m) x y p h = by_bool (eqb m.x x && eqb m.y y) (λ t. rw t) (λ t. rw t h)
 
   -- the bend at a leg's start
   bend_reach :
-      (w : Weight) (target source : EndMark) (leg : PathLeg) (first : Bool) (from : Point) →
+      (w : Weight) (target source : Option EndMark) (leg : PathLeg) (first : Bool) (from : Point) →
       leg.first ≡ first →
       leg.from ≡ from →
       piece_reach window (leg_bend_piece w target source leg) ≡ only_rows (bend_rows window first from.y)
@@ -64,7 +63,7 @@ module _ (window : Window) where
 
   -- its interior
   line_reach :
-      (target source : EndMark) (leg : PathLeg) (from to : Point) →
+      (target source : Option EndMark) (leg : PathLeg) (from to : Point) →
       leg.from ≡ from →
       leg.to ≡ to →
       piece_reach window (leg_line target source leg) ≡ only_rows (line_rows window from to)
@@ -75,7 +74,7 @@ module _ (window : Window) where
       (λ t. by_bool (eqb from.y to.y) (λ u. rw (t, u)) (λ u. rw (t, u))))
 
   two_more :
-      (p q : Piece) (rest : List Piece) (a b c : Rows) →
+      (p q : Piece) (rest : List Piece) (a b c : Option Rows) →
       piece_reach window p ≡ only_rows a →
       piece_reach window q ≡ only_rows b →
       reach_of window rest ≡ only_rows c →
@@ -86,7 +85,7 @@ module _ (window : Window) where
   -- the rows of a leg's interior, along a column, along a row, and slanted
 
   module _ (from to : Point) where
-    module _ (a : ℕ) (r : Rows) where
+    module _ (a : ℕ) (r : Option Rows) where
       pub rows_on_column : (to_y_lem : ℕ) → a ≡ from.y → to_y_lem ≡ to.y → from.x ≡ to.x → r ≡ vertical_rows window a to_y_lem → r ≡ line_rows window from to
       unfolding line_rows
       rows_on_column to_y_lem p q h e = rw (eq-eqb _ _ h, ← p, ← q) e
@@ -97,19 +96,19 @@ module _ (window : Window) where
       unfolding line_rows
       rows_on_row from_x_lem to_x p q s n h e = rw (ne_eqb _ _ n, eq-eqb _ _ h, ← p, ← q, ← s) e
 
-    pub rows_slanted : (from.x ≡ to.x → ⊥) → (from.y ≡ to.y → ⊥) → rows.None ≡ line_rows window from to
+    pub rows_slanted : (from.x ≡ to.x → ⊥) → (from.y ≡ to.y → ⊥) → None ≡ line_rows window from to
     unfolding line_rows
     rows_slanted n m = rw (ne_eqb _ _ n, ne_eqb _ _ m)
 
   -- the rows of the legs from a stop on, through the stops after it
-  unfoldable rows_along : Bool → Point → List Point → Rows
-  rows_along first a [] = rows.None
+  unfoldable rows_along : Bool → Point → List Point → Option Rows
+  rows_along first a [] = None
   rows_along first a (b ∷ rest) =
       join_rows (bend_rows window first a.y) (join_rows (line_rows window a b) (rows_along false b rest))
 
   -- they are those of the pieces of these legs
   legs_reach :
-      (w : Weight) (target source : EndMark) (path rest : List Point) (k : ℕ) (first : Bool) (a : Point) →
+      (w : Weight) (target source : Option EndMark) (path rest : List Point) (k : ℕ) (first : Bool) (a : Point) →
       eqb k 0 ≡ first →
       drop k path ≡ a ∷ rest →
       reach_of window (each (numbers k (length rest)) (λ j. leg_pieces w target source (path_leg path j)))
@@ -142,7 +141,7 @@ module _ (window : Window) where
     pass_repeated h = sym (pass_same passed p (rw (← at, ← t) h))
 
     pub pass_leg :
-        (y : ℕ) (bend bent line all : Rows) → same ≡ false → y ≡ stop.y →
+        (y : ℕ) (bend bent line all : Option Rows) → same ≡ false → y ≡ stop.y →
         bend ≡ bend_rows window passed.first y → bent ≡ join_rows passed.rows bend →
         line ≡ line_rows window stop p → all ≡ join_rows bent line →
         ◌≡◌ {A = Passed} (record { stop = p; first = false; rows = all }) (pass_point window passed p)
@@ -169,12 +168,12 @@ module _ (window : Window) where
       ∙ join_assoc (join_rows passed.rows bend) line rest
       ∙ join_assoc passed.rows bend (join_rows line rest))))
     where
-      then : {q : Passed} {r : Rows} → pass_point window passed p ≡ q → (pass_points window q points).rows ≡ r → (pass_points window (pass_point window passed p) points).rows ≡ r
+      then : {q : Passed} {r : Option Rows} → pass_point window passed p ≡ q → (pass_points window q points).rows ≡ r → (pass_points window (pass_point window passed p) points).rows ≡ r
       then e h = ap (λ (x : Passed). (pass_points window x points).rows) e ∙ h
 
   -- all points passed, the rows are those of the path's pieces
   passed_reach :
-      (e : Edge) (points : List ℕ) (r : Rows) →
+      (e : Edge) (points : List ℕ) (r : Option Rows) →
       r ≡ (pass_points window (pass_none e) (path_points e points 1 (point_count points + 1))).rows →
       only_rows r ≡ reach_of window (orthogonal_pieces e points)
   unfolding pieces_along stops

@@ -1,8 +1,7 @@
 -- For the proofs alone: how the code finds the rows of an Orthogonal path, point by point and without its arrows. (`passed-reach` of the proofs: they are the
 -- rows of its pieces.)
-use Rattle.std.specs.Prelude.{ℕ, Bool, true, false, cond, List, [], ◌∷◌, eqb}
+use Rattle.std.specs.Prelude.{ℕ, Bool, true, false, cond, List, [], ◌∷◌, eqb, Option, None}
 use Rattle.rows.specs.declared.Rows.{Rows}
-use Rattle.rows.specs.declared.Rows.TheVariants as rows
 use Rattle.rows.specs.declared.Window.{Window}
 use Rattle.rows.specs.Window.{join_rows}
 use Rattle.rows.specs.Computed.{window_rows}
@@ -14,13 +13,13 @@ use Rattle.orthogonal.specs.Points.{source, same_point}
 
 -- the row of the bend at a leg's start, and the rows of its interior
 
-unfoldable pub bend_rows : Window → Bool → ℕ → Rows
-bend_rows window first y = cond first rows.None (window_rows window y y)
+unfoldable pub bend_rows : Window → Bool → ℕ → Option Rows
+bend_rows window first y = cond first None (window_rows window y y)
 
-unfoldable pub line_rows : Window → Point → Point → Rows
+unfoldable pub line_rows : Window → Point → Point → Option Rows
 line_rows window from to =
     cond (eqb from.x to.x) (vertical_rows window from.y to.y)
-    (cond (eqb from.y to.y) (horizontal_rows window from.y from.x to.x) rows.None)
+    (cond (eqb from.y to.y) (horizontal_rows window from.y from.x to.x) None)
 
 -- one point more, and many
 
@@ -42,4 +41,4 @@ pass_points window passed (point ∷ rest) = pass_points window (pass_point wind
 
 -- before any point
 abbrev pub pass_none : Edge → Passed
-pass_none e = record { stop = source e; first = true; rows = rows.None }
+pass_none e = record { stop = source e; first = true; rows = None }

@@ -18,19 +18,19 @@ pub struct Passed {
     pub stop: Point,
     // whether that is the source
     pub first: bool,
-    // the rows that the legs up to it touch
-    pub rows: Rows,
+    // the rows that the legs up to it touch, if any
+    pub rows: Option<Rows>,
 }
 
 // The row of the bend at a leg's start: there is none at the source.
-fn bend_rows(window: Window, first: bool, y: usize) -> Rows
+fn bend_rows(window: Window, first: bool, y: usize) -> Option<Rows>
     ensures { result ≡ bend_rows window first y }
 {
-    if first { Rows::None } else { window.clip(y, y) }
+    if first { None } else { window.clip(y, y) }
 }
 
 // The rows of a leg's interior.
-fn line_rows(window: Window, from: Point, to: Point) -> Rows
+fn line_rows(window: Window, from: Point, to: Point) -> Option<Rows>
     ensures { result ≡ line_rows window from to }
 {
     let y = ground::number(from.y);
@@ -40,7 +40,7 @@ fn line_rows(window: Window, from: Point, to: Point) -> Rows
     if from.y == to.y {
         return touch::horizontal_rows(window, y, ground::number(from.x), ground::number(to.x));
     }
-    Rows::None
+    None
 }
 
 // One point more: where it repeats the last stop it is skipped, else it ends a leg.
@@ -51,12 +51,14 @@ fn pass_point(window: Window, passed: Passed, point: Point) -> Passed
     if points::same_point(stop, point) {
         return passed;
     }
-    let rows = passed.rows;
-    let bent = rows.join(bend_rows(window, passed.first, ground::number(stop.y)));
+    let bent = rows::join(
+        passed.rows,
+        bend_rows(window, passed.first, ground::number(stop.y)),
+    );
     Passed {
         stop: point,
         first: false,
-        rows: bent.join(line_rows(window, stop, point)),
+        rows: rows::join(bent, line_rows(window, stop, point)),
     }
 }
 
@@ -68,12 +70,10 @@ pub fn orthogonal_reach(window: Window, e: Edge, points: &[u32]) -> Reach
     let mut passed = Passed {
         stop: points::source_point(e),
         first: true,
-        rows: Rows::None,
+        rows: None,
     };
-    let mut k: usize = 0;
-    while k < count {
+    for k in 0..count {
         passed = pass_point(window, passed, image::point_at(points, k));
-        k += 1;
     }
     let all = pass_point(window, passed, points::target_point(e));
     let rows = all.rows;

@@ -7,7 +7,7 @@ ghost use Rattle.refusals.specs.Rules.{rules};
 ghost use Rattle.picture.specs.Painted.{plain_verdict, coloured_verdict, painted, painted_coloured};
 ghost use Rattle.paint.specs.Outcome.{outcome_of};
 
-use refusals::Verdict;
+use refusals::Refusal;
 
 pub mod accepted;
 
@@ -21,30 +21,26 @@ pub struct Outcome {
 }
 
 // "Accepted: code 0, place 0."
-pub fn outcome_of(verdict: Verdict) -> Outcome
+pub fn outcome_of(verdict: Result<(), Refusal>) -> Outcome
     ensures { result ≡ outcome_of verdict }
 {
     match verdict {
-        Verdict::Passed => Outcome { code: 0, place: 0 },
-        Verdict::Refused { code, place } => Outcome {
-            code: code,
-            place: place,
+        Ok(()) => Outcome { code: 0, place: 0 },
+        Err(refusal) => Outcome {
+            code: refusal.code,
+            place: refusal.place,
         },
     }
 }
 
 // The codes of the check.
-pub fn image_verdict(image: &[u32]) -> Verdict
+pub fn image_verdict(image: &[u32]) -> Result<(), Refusal>
     ensures { result ≡ first_broken (rules image.now) }
 {
-    let answer = refusals::check(image);
-    if answer.code != 0 {
-        return Verdict::Refused {
-            code: answer.code,
-            place: answer.place,
-        };
+    match refusals::accept(image) {
+        Ok(_) => Ok(()),
+        Err(refusal) => Err(refusal),
     }
-    Verdict::Passed
 }
 
 // The codes of the check, then 11 and 12 of a plain band.
@@ -54,13 +50,10 @@ pub fn plain_verdict(
     rows: usize,
     cells: &[u32],
     scratch: &[u32],
-) -> Verdict
+) -> Result<(), Refusal>
     ensures { result ≡ plain_verdict image.now first rows cells.now scratch.now }
 {
-    let verdict = image_verdict(image);
-    let Verdict::Passed = verdict else {
-        return verdict;
-    };
+    image_verdict(image)?;
     lending::check_plain(image, first, rows, cells, scratch)
 }
 
@@ -77,7 +70,7 @@ pub fn paint(
     ensures scratch_after { scratch.new ≡ (painted image.now first rows cells.old scratch.old).scratch }
 {
     let verdict = plain_verdict(image, first, rows, cells, scratch);
-    let Verdict::Passed = verdict else {
+    let Ok(()) = verdict else {
         return outcome_of(verdict);
     };
     accepted::paint_plain(image, first, rows, cells, scratch);
@@ -93,13 +86,10 @@ pub fn coloured_verdict(
     colours: &[u32],
     stamps: &[u32],
     scratch: &[u32],
-) -> Verdict
+) -> Result<(), Refusal>
     ensures { result ≡ coloured_verdict image.now first rows cells.now colours.now stamps.now scratch.now }
 {
-    let verdict = image_verdict(image);
-    let Verdict::Passed = verdict else {
-        return verdict;
-    };
+    image_verdict(image)?;
     lending::check_coloured(image, first, rows, cells, colours, stamps, scratch)
 }
 
@@ -120,7 +110,7 @@ pub fn paint_coloured(
     ensures scratch_after { scratch.new ≡ (painted_coloured image.now first rows cells.old colours.old stamps.old scratch.old).scratch }
 {
     let verdict = coloured_verdict(image, first, rows, cells, colours, stamps, scratch);
-    let Verdict::Passed = verdict else {
+    let Ok(()) = verdict else {
         return outcome_of(verdict);
     };
     accepted::paint_planes(image, first, rows, cells, colours, stamps, scratch);

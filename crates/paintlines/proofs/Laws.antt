@@ -1,4 +1,4 @@
--- A turn of filling a buffer with its pattern, a turn of a checksum, and a request that has room, over plain variables.
+-- A turn of filling a buffer with its pattern and a turn of a checksum, over plain variables.
 use native.Mathlib.Omega.{arith}
 use native.Mathlib.Nat.{not-suc-le-zero, add-zero, zero-add}
 use native.Mathlib.Numerals.{add-one}
@@ -9,10 +9,6 @@ use lib.ListN.{length, get_or, set, drop, drop_of_length-le}
 use lib.Seq.{drop-cons}
 use Rattle.ground.specs.Each.{numbers}
 use Rattle.paintlines.specs.Lent.{checksum_from}
-use Rattle.paintlines.specs.Request.{HasRoom, Fitting}
-use Rattle.paintlines.specs.declared.Request.{Request}
-use Rattle.paintlines.specs.declared.Next.{Next}
-use Rattle.paintlines.specs.declared.Next.TheVariants.{Asked}
 
 -- The pattern, of a value for each index.
 
@@ -48,24 +44,20 @@ module _ (value : ℕ → ℕ) where
       let e : k ≡ length start = omega arith in
       rw (drop_of_length-le start q, append-nil, e) at i
 
--- The checksum.
+-- The checksum of items, by the number of each.
+module _ {A : Type 0} (value : A → ℕ) (items : List A) where
+  -- a turn takes one item in
+  pub one_summed :
+      (sum k r n : ℕ) (item : A) →
+      checksum_from sum (map value (drop k items)) ≡ r →
+      item ≡ get_or items k item →
+      n ≡ value item →
+      k < length items →
+      checksum_from ((31 * sum + n + 1) % 4294967291) (map value (drop (k + 1) items)) ≡ r
+  unfolding checksum_from
+  one_summed sum k r n item i e v h = rw (v, add-one k) (rw (drop-cons items k item h, ← e) at i)
 
--- a turn takes one word in
-pub one_summed :
-    (words : List ℕ) (sum k w r : ℕ) →
-    checksum_from sum (drop k words) ≡ r →
-    w ≡ get_or words k 0 →
-    k < length words →
-    checksum_from ((31 * sum + w + 1) % 4294967291) (drop (k + 1) words) ≡ r
-unfolding checksum_from
-one_summed words sum k w r i e h = rw (e, add-one k) (rw (drop-cons words k 0 h) at i)
-
--- after the last turn no word is left
-pub all_summed : (words : List ℕ) (sum k r : ℕ) → checksum_from sum (drop k words) ≡ r → length words ≤ k → sum ≡ r
-unfolding checksum_from
-all_summed words sum k r i h = rw (drop_of_length-le words h) at i
-
--- The next request.
-
-pub asked_fits : (next : Next) (r : Request) → next ≡ Asked r → Fitting next → HasRoom r
-asked_fits next r e fits = rw e at fits
+  -- after the last turn no item is left
+  pub all_summed : (sum k r : ℕ) → checksum_from sum (map value (drop k items)) ≡ r → length items ≤ k → sum ≡ r
+  unfolding checksum_from
+  all_summed sum k r i h = rw (drop_of_length-le items h) at i

@@ -1,8 +1,7 @@
 -- What is known of the next request of the stream, and of the buffers: each has room.
-use Rattle.std.specs.Prelude.{ℕ, ◌*◌, ◌≤◌, List, ◌≡◌, length}
+use Rattle.std.specs.Prelude.{ℕ, ◌*◌, ◌≤◌, List, ◌≡◌, length, Result, Option, IfOk, IfSome}
 use Rattle.paintlines.specs.declared.Request.{Request}
-use Rattle.paintlines.specs.declared.Next.{Next}
-use Rattle.paintlines.specs.declared.Next.TheVariants.{Asked, End, Unread}
+use Rattle.paintlines.specs.declared.Stop.{Stop}
 
 -- the most words of an image
 abbrev pub most_words : ℕ
@@ -24,10 +23,8 @@ pub record HasRoom (r : Request) : Type 0 where
   pub scratch : r.scratch ≤ most_lent
   pub output : r.output ≤ most_output
 
-abbrev pub Fitting : Next → Type 0
-Fitting (Asked r) = HasRoom r
-Fitting End = Unit {0}
-Fitting Unread = Unit {0}
+abbrev pub Fitting : Result (Option Request) Stop → Type 0
+Fitting next = IfOk next (λ asked. IfSome asked HasRoom)
 
 -- the buffers that parts are lent of
 abbrev pub Planes : List ℕ → List ℕ → List ℕ → List ℕ → List ℕ → Type 0

@@ -105,14 +105,14 @@ fn say_lent(
     out: &[u8],
 ) -> io::Result<()> {
     let short = r.short;
-    say::buffer(rt, b"cells", cells, short)?;
+    say::buffer(rt, "cells", cells, short)?;
     if r.coloured {
-        say::buffer(rt, b"colours", colours, short)?;
-        say::buffer(rt, b"stamps", stamps, short)?;
+        say::buffer(rt, "colours", colours, short)?;
+        say::buffer(rt, "stamps", stamps, short)?;
     }
-    say::buffer(rt, b"scratch", scratch, short)?;
+    say::buffer(rt, "scratch", scratch, short)?;
     if r.text {
-        say::output(rt, out, short)?;
+        say::buffer(rt, "out", out, short)?;
     }
     Ok(())
 }

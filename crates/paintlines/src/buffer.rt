@@ -1,5 +1,5 @@
 // What a lent buffer holds before each request, and the checksum that stands for it in the short form.
-ghost use Rattle.std.specs.Prelude.{◌≡◌, ◌≤◌, ◌<◌, length};
+ghost use Rattle.std.specs.Prelude.{ℕ, ◌≡◌, ◌≤◌, ◌<◌, length, map};
 ghost use Rattle.paintlines.specs.Lent.{pattern, output_pattern, checksum};
 ghost use Rattle.paintlines.specs.Request.{most_lent, most_output};
 
@@ -19,10 +19,8 @@ pub fn fill_pattern(buffer: usize, lent: &mut [u32])
     ensures { lent.new ≡ pattern buffer (length lent.old) }
 {
     let start = 0x5000_0000 + 0x100_0000 * buffer;
-    let mut k: usize = 0;
-    while k < lent.len() {
-        lent[k] = (start + k) as u32;
-        k += 1;
+    for (k, word) in lent.iter_mut().enumerate() {
+        *word = (start + k) as u32;
     }
 }
 
@@ -31,44 +29,58 @@ pub fn fill_output(out: &mut [u8])
     requires { length out.old ≤ most_output }
     ensures { out.new ≡ output_pattern (length out.old) }
 {
-    let mut k: usize = 0;
-    while k < out.len() {
-        out[k] = ((0x50 + k) % 256) as u8;
-        k += 1;
+    for (k, byte) in out.iter_mut().enumerate() {
+        *byte = ((0x50 + k) % 256) as u8;
     }
 }
 
 // Sums are made below this prime.
 const PRIME: usize = 4294967291;
 
-pub fn checksum(words: &[u32]) -> u32
-    ensures { result ≡ checksum words.now }
-{
-    let mut sum: usize = 0;
-    let mut k: usize = 0;
-    while k < words.len() {
-        sum = (31 * sum + ground::number(words[k]) + 1) % PRIME;
-        k += 1;
+// A word or a byte of a buffer.
+pub trait Item: Copy {
+    ghost value: { Self → ℕ };
+
+    // It as a number, of so few digits that no sum wraps.
+    fn number(self) -> usize
+        ensures { (result ≡ value self) × (result < 4294967296) };
+
+    // Such items as text, as many as have room; answers how many bytes they take.
+    fn spell(items: &[Self], text: &mut [u8]) -> usize
+        ensures { result ≤ length text.new };
+}
+
+impl Item for u32 {
+    ghost value = { λ word. word };
+
+    fn number(self) -> usize {
+        ground::number(self)
     }
-    sum as u32
+
+    fn spell(items: &[u32], text: &mut [u8]) -> usize {
+        hexrow::spell(items, text)
+    }
 }
 
-// A byte as a number, so that no sum wraps.
-fn number(b: u8) -> usize
-    ensures { (result ≡ b) × (result < 256) }
-{
-    b as usize
+impl Item for u8 {
+    ghost value = { λ byte. byte };
+
+    fn number(self) -> usize {
+        self as usize
+    }
+
+    fn spell(items: &[u8], text: &mut [u8]) -> usize {
+        hexrow::spell_bytes(items, text)
+    }
 }
 
-// The checksum of bytes.
-pub fn byte_checksum(bytes: &[u8]) -> u32
-    ensures { result ≡ checksum bytes.now }
+// The checksum of words, or of bytes.
+pub fn checksum<T: Item>(items: &[T]) -> u32
+    ensures { result ≡ checksum (map T.value items.now) }
 {
     let mut sum: usize = 0;
-    let mut k: usize = 0;
-    while k < bytes.len() {
-        sum = (31 * sum + number(bytes[k]) + 1) % PRIME;
-        k += 1;
+    for item in items {
+        sum = (31 * sum + item.number() + 1) % PRIME;
     }
     sum as u32
 }

@@ -18,7 +18,7 @@
 // stream that breaks off inside a request, end the answers with `unread`.
 #![tactic(auto)]
 
-ghost use Rattle.std.specs.Prelude.{◌*◌, ◌≤◌, length};
+ghost use Rattle.std.specs.Prelude.{◌*◌, ◌≤◌, length, IfOk};
 ghost use Rattle.paintlines.specs.Request.{HasRoom, Fitting, Planes, Buffers};
 
 use std::io;
@@ -71,15 +71,18 @@ struct Request {
     output: usize,
 }
 
-// What stands next on the stream.
-#[derive(Clone, Copy)]
-enum Next {
-    // a request within the limits
-    Asked(Request),
-    // the stream ends
-    End,
-    // it breaks off, or what it asks is not to be answered
+// Why the requests of a stream are not all answered.
+enum Stop {
+    // the stream breaks off, or what it asks is not to be answered
     Unread,
+    // an answer cannot be written
+    Unwritten(io::Error),
+}
+
+impl From<io::Error> for Stop {
+    fn from(refusal: io::Error) -> Stop {
+        Stop::Unwritten(refusal)
+    }
 }
 
 // A number of two words, the high one first.
@@ -117,85 +120,62 @@ fn most_lent(r: Request) -> usize
 }
 
 // A request over a limit is not to be answered.
-fn within_limits(r: Request) -> Next
-    ensures { Fitting result }
+fn within_limits(r: Request) -> Result<Request, Stop>
+    ensures { IfOk result HasRoom }
 {
-    if MOST_WORDS < r.words {
-        return Next::Unread;
+    if MOST_WORDS < r.words || MOST_LENT < most_lent(r) || MOST_OUTPUT < r.output {
+        return Err(Stop::Unread);
     }
-    if MOST_LENT < most_lent(r) {
-        return Next::Unread;
-    }
-    if MOST_OUTPUT < r.output {
-        return Next::Unread;
-    }
-    Next::Asked(r)
+    Ok(r)
 }
 
-// Only a request for text is lent an output.
-fn output_wanted(r: Request) -> Next
-    ensures { Fitting result }
+// What the words before an image ask. Where flags are set that do not go together, or others, or the last word is not 0, it is not to be answered: only a request for text
+// is lent an output, and a whole sheet begins at row 0.
+fn asked(head: &[u32; HEAD_WORDS]) -> Result<Request, Stop>
+    ensures { IfOk result HasRoom }
 {
-    if !r.text {
-        if r.output != 0 {
-            return Next::Unread;
-        }
+    if MOST_FLAGS < head[1] || head[11] != 0 {
+        return Err(Stop::Unread);
+    }
+    let r = request_of(head);
+    if (!r.text && r.output != 0) || (r.sheet && r.first != 0) {
+        return Err(Stop::Unread);
     }
     within_limits(r)
 }
 
-// A whole sheet begins at row 0.
-fn rows_wanted(r: Request) -> Next
-    ensures { Fitting result }
-{
-    if r.sheet {
-        if r.first != 0 {
-            return Next::Unread;
-        }
-    }
-    output_wanted(r)
-}
-
-// What the words before an image ask. Where flags are set that do not go together, or others, or the last word is not 0, it is not to be answered.
-fn asked(head: &[u32; HEAD_WORDS]) -> Next
-    ensures { Fitting result }
-{
-    if MOST_FLAGS < head[1] {
-        return Next::Unread;
-    }
-    if head[11] != 0 {
-        return Next::Unread;
-    }
-    rows_wanted(request_of(head))
-}
-
-fn next_request<R: io::Read>(from: &mut R) -> Next
+// The next request; none where the stream ends.
+fn next_request<R: io::Read>(from: &mut R) -> Result<Option<Request>, Stop>
     ensures { Fitting result }
 {
     let mut bytes = [0u8; 4 * HEAD_WORDS];
     let got = input::read_full(from, &mut bytes);
     if got == 0 {
-        return Next::End;
+        return Ok(None);
     }
     if got < 4 * HEAD_WORDS {
-        return Next::Unread;
+        return Err(Stop::Unread);
     }
     let mut head = [0u32; HEAD_WORDS];
     wordfile::fill(&bytes, &mut head);
-    asked(&head)
+    Ok(Some(asked(&head)?))
 }
 
-// Reads so many words of an image; and whether they are there.
-fn read_image<R: io::Read>(from: &mut R, count: usize, bytes: &mut [u8], image: &mut [u32]) -> bool
+// Reads so many words of an image.
+fn read_image<R: io::Read>(
+    from: &mut R,
+    count: usize,
+    bytes: &mut [u8],
+    image: &mut [u32],
+) -> Result<(), Stop>
     requires { 4 * count ≤ length bytes.old }
 {
     let size = 4 * count;
-    let got = input::read_full(from, &mut bytes[..size]);
-    if got < size {
-        return false;
+    if input::read_full(from, &mut bytes[..size]) < size {
+        return Err(Stop::Unread);
     }
     wordfile::fill(&bytes[..size], image);
-    true
+    Ok(())
 }
 
 // Answers a request whose image was read, in parts of the buffers.
@@ -228,7 +208,7 @@ fn answer_read(
     )
 }
 
-// Reads the image of a request and answers it; and whether the image could be read.
+// Reads the image of a request and answers it.
 fn answer<R: io::Read>(
     rt: &impl Print,
     from: &mut R,
@@ -240,43 +220,13 @@ fn answer<R: io::Read>(
     stamps: &mut [u32],
     scratch: &mut [u32],
     out: &mut [u8],
-) -> io::Result<bool>
+) -> Result<(), Stop>
     requires { HasRoom r × Buffers bytes.old image.old cells.old colours.old stamps.old scratch.old out.old }
 {
     let words = r.words;
-    if !read_image(from, words, bytes, image) {
-        say::unread(rt)?;
-        return Ok(false);
-    }
+    read_image(from, words, bytes, image)?;
     answer_read(rt, r, &image[..words], cells, colours, stamps, scratch, out)?;
-    Ok(true)
-}
-
-// Answers the next request; and whether there may be another.
-fn step<R: io::Read>(
-    rt: &impl Print,
-    from: &mut R,
-    bytes: &mut [u8],
-    image: &mut [u32],
-    cells: &mut [u32],
-    colours: &mut [u32],
-    stamps: &mut [u32],
-    scratch: &mut [u32],
-    out: &mut [u8],
-) -> io::Result<bool>
-    requires { Buffers bytes.old image.old cells.old colours.old stamps.old scratch.old out.old }
-{
-    let next = next_request(from);
-    match next {
-        Next::Asked(r) => answer(
-            rt, from, r, bytes, image, cells, colours, stamps, scratch, out,
-        ),
-        Next::End => Ok(false),
-        Next::Unread => {
-            say::unread(rt)?;
-            Ok(false)
-        }
-    }
+    Ok(())
 }
 
 // Answers the requests of the stream. A proved loop has to end, and nothing says that a stream does: the turns are counted up to a number that no stream reaches.
@@ -290,13 +240,16 @@ fn answer_all<R: io::Read>(
     stamps: &mut [u32],
     scratch: &mut [u32],
     out: &mut [u8],
-) -> io::Result<()>
+) -> Result<(), Stop>
     requires { Buffers bytes.old image.old cells.old colours.old stamps.old scratch.old out.old }
 {
     for _ in 0..u64::MAX {
-        if !step(rt, from, bytes, image, cells, colours, stamps, scratch, out)? {
-            return Ok(());
-        }
+        let Some(r) = next_request(from)? else {
+            break;
+        };
+        answer(
+            rt, from, r, bytes, image, cells, colours, stamps, scratch, out,
+        )?;
     }
     Ok(())
 }
@@ -313,7 +266,11 @@ fn lend_all<R: io::Read>(
     scratch: &mut [u32; MOST_LENT],
     out: &mut [u8; MOST_OUTPUT],
 ) -> io::Result<()> {
-    answer_all(rt, from, bytes, image, cells, colours, stamps, scratch, out)
+    match answer_all(rt, from, bytes, image, cells, colours, stamps, scratch, out) {
+        Ok(()) => Ok(()),
+        Err(Stop::Unread) => println!(rt; "unread"),
+        Err(Stop::Unwritten(refusal)) => Err(refusal),
+    }
 }
 
 fn main(rt: HostRuntime) -> io::Result<()> {

@@ -6,12 +6,10 @@ use mathlib.Core.List.{List, [], ◌∷◌, ◌++◌, append_assoc}
 use mathlib.Core.Path.{◌≡◌, sym, ap, ◌∙◌}
 use lib.ListN.{length, take, drop, replicate}
 use borrow.Author.Tests.{ne_eqb}
-use Rattle.ground.specs.declared.Found.TheVariants as found
+use Rattle.std.specs.Prelude.{Some}
 use Rattle.ground.specs.Each.{every}
 use Rattle.ground.specs.Judged.{Judged, first_bad}
-use Rattle.refusals.specs.declared.Verdict.{Verdict}
-use Rattle.refusals.specs.declared.Verdict.TheVariants.{Passed, Refused}
-use Rattle.refusals.specs.FirstBroken.{Rule, rule, first_broken}
+use Rattle.refusals.specs.FirstBroken.{Verdict, Passed, Refused, Rule, rule, first_broken}
 use Rattle.refusals.specs.Rules.{rules}
 use Rattle.refusals.specs.Accepted.{Keeps}
 use Rattle.window.specs.declared.Lent.TheVariants.{Cells, All}
@@ -33,7 +31,7 @@ room_made image w n r a b c = rw (c, b, a)
 
 -- Code 11 of the band height.
 
-pub no_rows : (band : ℕ) → band ≡ 0 → first_bad (height_judged band) ≡ found.At 1
+pub no_rows : (band : ℕ) → band ≡ 0 → first_bad (height_judged band) ≡ Some 1
 unfolding height_judged first_bad
 no_rows band e = rw e
 

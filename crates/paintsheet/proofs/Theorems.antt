@@ -7,8 +7,7 @@ use mathlib.Core.Path.{◌≡◌, refl, sym, ap, ◌∙◌}
 use lib.ListN.{take, replicate, length-replicate}
 use Rattle.ground.specs.Each.{every}
 use Rattle.ground.specs.Judged.{Judged, FirstBad}
-use Rattle.refusals.specs.declared.Verdict.TheVariants.{Passed}
-use Rattle.refusals.specs.FirstBroken.{first_broken}
+use Rattle.refusals.specs.FirstBroken.{Passed, first_broken}
 use Rattle.refusals.specs.Rules.{checked}
 use Rattle.refusals.proofs.Theorems.{accepted_iff}
 use Rattle.picture.specs.Picture.{height, picture_cells, picture_colours}

@@ -1,8 +1,7 @@
 -- "a call that checks once and paints all rows with a stated band height", plain or coloured: what it answers, and each lent word afterwards.
 use Rattle.std.specs.Prelude.{ℕ, not, List, [], ◌∷◌, ◌≡◌, eqb, replicate}
 use Rattle.ground.specs.Judged.{Judged, judged}
-use Rattle.refusals.specs.declared.Verdict.{Verdict}
-use Rattle.refusals.specs.FirstBroken.{first_broken}
+use Rattle.refusals.specs.FirstBroken.{Verdict, first_broken}
 use Rattle.picture.specs.Picture.{height, picture_cells, picture_colours}
 use Rattle.picture.specs.Painted.{plain_rooms, coloured_rooms, call_rules, afterwards}
 use Rattle.paint.specs.declared.Outcome.{Outcome}

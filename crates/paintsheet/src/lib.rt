@@ -13,7 +13,7 @@ ghost use Rattle.paintsheet.specs.PaintedSheet.{height_judged, sheet_verdict, sh
 
 use layout::{HEADER_ELEMENTS, HEADER_HEIGHT, HEADER_RUNS, word};
 use paint::Outcome;
-use refusals::Verdict;
+use refusals::Refusal;
 use window::Lent;
 
 // "band height 0 is 11, place 1"
@@ -34,30 +34,24 @@ fn sheet_scratch(image: &[u32]) -> usize
 }
 
 // The codes of the check, then 11 of the band height.
-fn asked_verdict(image: &[u32], band: usize) -> Verdict
+fn asked_verdict(image: &[u32], band: usize) -> Result<(), Refusal>
     ensures { result ≡ first_broken (rules image.now ++ (rule outside_sheet (height_judged band) ∷ [])) }
 {
-    let verdict = paint::image_verdict(image);
-    let Verdict::Passed = verdict else {
-        return verdict;
-    };
+    paint::image_verdict(image)?;
     if band == 0 {
-        return Verdict::Refused {
+        return Err(Refusal {
             code: lending::OUTSIDE_SHEET,
             place: BAND_HEIGHT,
-        };
+        });
     }
-    Verdict::Passed
+    Ok(())
 }
 
 // The codes of the check, then 11 and 12 of a plain sheet.
-fn sheet_verdict(image: &[u32], band: usize, cells: &[u32], scratch: &[u32]) -> Verdict
+fn sheet_verdict(image: &[u32], band: usize, cells: &[u32], scratch: &[u32]) -> Result<(), Refusal>
     ensures { result ≡ sheet_verdict image.now band cells.now scratch.now }
 {
-    let verdict = asked_verdict(image, band);
-    let Verdict::Passed = verdict else {
-        return verdict;
-    };
+    asked_verdict(image, band)?;
     lending::short_plain(sheet_room(image), sheet_scratch(image), cells, scratch)
 }
 
@@ -69,13 +63,10 @@ fn sheet_coloured_verdict(
     colours: &[u32],
     stamps: &[u32],
     scratch: &[u32],
-) -> Verdict
+) -> Result<(), Refusal>
     ensures { result ≡ sheet_coloured_verdict image.now band cells.now colours.now stamps.now scratch.now }
 {
-    let verdict = asked_verdict(image, band);
-    let Verdict::Passed = verdict else {
-        return verdict;
-    };
+    asked_verdict(image, band)?;
     lending::short_coloured(
         sheet_room(image),
         sheet_scratch(image),
@@ -141,7 +132,7 @@ pub fn paint_sheet(image: &[u32], band: usize, cells: &mut [u32], scratch: &mut 
     ensures { SheetPainted image.now band cells.old scratch.old result cells.new scratch.new }
 {
     let verdict = sheet_verdict(image, band, cells, scratch);
-    let Verdict::Passed = verdict else {
+    let Ok(()) = verdict else {
         return paint::outcome_of(verdict);
     };
     paint_accepted(image, band, cells, scratch);
@@ -160,7 +151,7 @@ pub fn paint_sheet_coloured(
     ensures { SheetPaintedColoured image.now band cells.old colours.old stamps.old scratch.old result cells.new colours.new stamps.new scratch.new }
 {
     let verdict = sheet_coloured_verdict(image, band, cells, colours, stamps, scratch);
-    let Verdict::Passed = verdict else {
+    let Ok(()) = verdict else {
         return paint::outcome_of(verdict);
     };
     paint_accepted_coloured(image, band, cells, colours, stamps, scratch);

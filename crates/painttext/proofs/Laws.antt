@@ -9,11 +9,10 @@ use lib.ListN.{length, drop, replicate, length-append}
 use borrow.Author.Tests.{leb-true, le-leb, lt-leb}
 use mir.Val.{Fits}
 use mir.Syntax.{w64}
+use Rattle.std.specs.Prelude.{Ok, Err}
 use Rattle.ground.specs.Judged.{Judged, first_bad}
 use Rattle.ground.proofs.Each.{by_bool}
-use Rattle.refusals.specs.declared.Verdict.{Verdict}
-use Rattle.refusals.specs.declared.Verdict.TheVariants.{Passed, Refused}
-use Rattle.refusals.specs.FirstBroken.{first_broken}
+use Rattle.refusals.specs.FirstBroken.{Verdict, Passed, Refused, first_broken}
 use Rattle.refusals.specs.Accepted.{Keeps}
 use Rattle.refusals.proofs.FirstBroken.{and_then, broken_append}
 use Rattle.picture.specs.Picture.{width, height, picture_cells, picture_colours}
@@ -39,8 +38,8 @@ room_fits width rows a b p q ha hb =
 
 -- a verdict and a later one that both pass
 both_pass : (v w : Verdict) → and_then v w ≡ Passed → (v ≡ Passed) × (w ≡ Passed)
-both_pass Passed w e = (refl, e)
-both_pass (Refused code place) w e = let z : ◌≡◌ {A = ℕ} 0 1 = cc in absurd (omega arith)
+both_pass (Ok passed) w e = (refl, e)
+both_pass (Err refusal) w e = let z : ◌≡◌ {A = ℕ} 0 1 = cc in absurd (omega arith)
 
 -- code 20
 

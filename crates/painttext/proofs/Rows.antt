@@ -5,9 +5,8 @@ use Prim.Native.Nat.{ℕ, zero, suc, ◌+◌, ◌*◌, ◌≤◌, ◌<◌}
 use mathlib.Core.List.{List, []}
 use mathlib.Core.Path.{◌≡◌, refl}
 use lib.ListN.{length, take, drop}
+use Rattle.refusals.specs.FirstBroken.{Verdict, Passed}
 use Rattle.ground.specs.Each.{numbers, each}
-use Rattle.refusals.specs.declared.Verdict.{Verdict}
-use Rattle.refusals.specs.declared.Verdict.TheVariants.{Passed}
 use Rattle.picture.specs.Picture.{width, picture_row, picture_cells, picture_colours}
 use Rattle.picture.specs.Painted.{afterwards}
 use Rattle.picture.proofs.Laws.{row_width}

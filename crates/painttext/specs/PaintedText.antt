@@ -1,10 +1,8 @@
 -- "a call that paints a band and writes it as UTF-8 text", plain or coloured: what it answers, and each lent word and byte afterwards.
-use Rattle.std.specs.Prelude.{ℕ, List, [], ◌∷◌, ◌++◌, ◌≡◌, length, replicate, leb}
+use Rattle.std.specs.Prelude.{ℕ, List, [], ◌∷◌, ◌++◌, ◌≡◌, length, replicate, leb, Ok, Err}
 use Rattle.ground.specs.Each.{numbers, each}
 use Rattle.ground.specs.Judged.{Judged, judged}
-use Rattle.refusals.specs.declared.Verdict.{Verdict}
-use Rattle.refusals.specs.declared.Verdict.TheVariants.{Passed, Refused}
-use Rattle.refusals.specs.FirstBroken.{Rule, rule, first_broken}
+use Rattle.refusals.specs.FirstBroken.{Verdict, Passed, Refused, Rule, rule, first_broken}
 use Rattle.picture.specs.Picture.{width, picture_row, picture_cells, picture_colours}
 use Rattle.picture.specs.Painted.{room, scratch_room, plain_judged, coloured_judged, paint_rules, afterwards}
 use Rattle.rowtext.specs.Text.{row_text, text_room}
@@ -43,8 +41,8 @@ text_coloured_verdict image first rows cells colours stamps scratch out =
 
 -- "The bytes written are answered"; on a refusal "no byte is written"
 unfoldable pub written_of : Verdict → ℕ → Written
-written_of Passed bytes = record { code = 0; place = 0; bytes = bytes }
-written_of (Refused code place) bytes = record { code = code; place = place; bytes = 0 }
+written_of (Ok passed) bytes = record { code = 0; place = 0; bytes = bytes }
+written_of (Err refusal) bytes = record { code = refusal.code; place = refusal.place; bytes = 0 }
 
 -- What `paint_text` promises: its answer, and each lent word and byte afterwards, by what was lent.
 pub record TextPainted (image : List ℕ) (first rows : ℕ) (cells scratch out : List ℕ) (answer : Written) (cells' scratch' out' : List ℕ) : Type 0 where

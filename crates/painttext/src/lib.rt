@@ -9,7 +9,7 @@ ghost use Rattle.rowtext.specs.Coloured.{coloured_room};
 ghost use Rattle.painttext.specs.PaintedText.{output_rules, text_verdict, text_coloured_verdict, written_of, TextPainted, TextPaintedColoured};
 
 use layout::{HEADER_WIDTH, word};
-use refusals::Verdict;
+use refusals::Refusal;
 
 // "output under rows × (4 × width + 1) bytes"
 pub const TOO_LITTLE_OUTPUT: u32 = 20;
@@ -42,16 +42,16 @@ fn coloured_room(width: usize, rows: usize) -> usize
 }
 
 // Code 20: an output that is shorter than is wanted.
-fn output_verdict(wanted: usize, out: &[u8]) -> Verdict
+fn output_verdict(wanted: usize, out: &[u8]) -> Result<(), Refusal>
     ensures { result ≡ first_broken (output_rules wanted out.now) }
 {
     if out.len() < wanted {
-        return Verdict::Refused {
+        return Err(Refusal {
             code: TOO_LITTLE_OUTPUT,
             place: 0,
-        };
+        });
     }
-    Verdict::Passed
+    Ok(())
 }
 
 // Painting's codes, then 20, of a plain text.
@@ -62,13 +62,10 @@ fn text_verdict(
     cells: &[u32],
     scratch: &[u32],
     out: &[u8],
-) -> Verdict
+) -> Result<(), Refusal>
     ensures { result ≡ text_verdict image.now first rows cells.now scratch.now out.now }
 {
-    let verdict = paint::plain_verdict(image, first, rows, cells, scratch);
-    let Verdict::Passed = verdict else {
-        return verdict;
-    };
+    paint::plain_verdict(image, first, rows, cells, scratch)?;
     let width = ground::number(word(image, HEADER_WIDTH));
     output_verdict(text_room(width, rows), out)
 }
@@ -83,30 +80,27 @@ fn text_coloured_verdict(
     stamps: &[u32],
     scratch: &[u32],
     out: &[u8],
-) -> Verdict
+) -> Result<(), Refusal>
     ensures { result ≡ text_coloured_verdict image.now first rows cells.now colours.now stamps.now scratch.now out.now }
 {
-    let verdict = paint::coloured_verdict(image, first, rows, cells, colours, stamps, scratch);
-    let Verdict::Passed = verdict else {
-        return verdict;
-    };
+    paint::coloured_verdict(image, first, rows, cells, colours, stamps, scratch)?;
     let width = ground::number(word(image, HEADER_WIDTH));
     output_verdict(coloured_room(width, rows), out)
 }
 
 // "The bytes written are answered"; where it is refused, none is.
-fn written_of(verdict: Verdict, bytes: usize) -> Written
+fn written_of(verdict: Result<(), Refusal>, bytes: usize) -> Written
     ensures { result ≡ written_of verdict bytes }
 {
     match verdict {
-        Verdict::Passed => Written {
+        Ok(()) => Written {
             code: 0,
             place: 0,
             bytes: bytes,
         },
-        Verdict::Refused { code, place } => Written {
-            code: code,
-            place: place,
+        Err(refusal) => Written {
+            code: refusal.code,
+            place: refusal.place,
             bytes: 0,
         },
     }
@@ -124,7 +118,7 @@ pub fn paint_text(
     ensures { TextPainted image.now first rows cells.old scratch.old out.old result cells.new scratch.new out.new }
 {
     let verdict = text_verdict(image, first, rows, cells, scratch, out);
-    let Verdict::Passed = verdict else {
+    let Ok(()) = verdict else {
         return written_of(verdict, 0);
     };
     paint::accepted::paint_plain(image, first, rows, cells, scratch);
@@ -149,7 +143,7 @@ pub fn paint_text_coloured(
     ensures { TextPaintedColoured image.now first rows cells.old colours.old stamps.old scratch.old out.old result cells.new colours.new stamps.new scratch.new out.new }
 {
     let verdict = text_coloured_verdict(image, first, rows, cells, colours, stamps, scratch, out);
-    let Verdict::Passed = verdict else {
+    let Ok(()) = verdict else {
         return written_of(verdict, 0);
     };
     paint::accepted::paint_planes(image, first, rows, cells, colours, stamps, scratch);

@@ -1,4 +1,5 @@
 -- How many runs an edge has at most, so that no sum of runs wraps: a piece is at most one run, and the pieces are few for each point of the path.
+use Rattle.std.specs.Prelude.{Option, Some, None}
 use native.Mathlib.Omega.{arith}
 use Prim.Native.Nat.{ℕ, zero, suc, ◌+◌, ◌-◌, ◌*◌, ◌≤◌, ◌<◌}
 use mathlib.Core.List.{List, [], ◌∷◌, map}
@@ -23,8 +24,6 @@ use Rattle.image.specs.Spans.{span_words, path_span, points_of, point_count}
 use Rattle.image.proofs.Theorems.{span_length}
 use Rattle.rows.specs.declared.Window.{Window}
 use Rattle.rows.specs.Window.{in_window}
-use Rattle.flow.specs.declared.Coordinate.{Coordinate}
-use Rattle.flow.specs.declared.Coordinate.TheVariants as coordinate
 use Rattle.flow.specs.declared.Leg.{Leg}
 use Rattle.flow.specs.declared.Piece.{Piece}
 use Rattle.flow.specs.declared.Piece.TheVariants.{Nothing, Vertical, Horizontal, Run, Stroke, Mark}
@@ -63,15 +62,15 @@ Few pieces = length pieces ≤ 9
 
 -- a leg on each axis
 
-crossed_y : (e : Edge) (offset : ℕ) (leg : Leg) (at : Coordinate) → length (crossing_y e offset leg at) ≤ 9
+crossed_y : (e : Edge) (offset : ℕ) (leg : Leg) (at : Option ℕ) → length (crossing_y e offset leg at) ≤ 9
 unfolding crossing_y bent_y
-crossed_y e offset leg coordinate.Below = omega arith
-crossed_y e offset leg (coordinate.At row) = omega arith
+crossed_y e offset leg None = omega arith
+crossed_y e offset leg (Some row) = omega arith
 
-crossed_x : (e : Edge) (offset : ℕ) (leg : Leg) (at : Coordinate) → length (crossing_x e offset leg at) ≤ 9
+crossed_x : (e : Edge) (offset : ℕ) (leg : Leg) (at : Option ℕ) → length (crossing_x e offset leg at) ≤ 9
 unfolding crossing_x bent_x
-crossed_x e offset leg coordinate.Below = omega arith
-crossed_x e offset leg (coordinate.At column) = omega arith
+crossed_x e offset leg None = omega arith
+crossed_x e offset leg (Some column) = omega arith
 
 straight_y_lem : (e : Edge) (leg : Leg) → length (straight_y e leg) ≤ 9
 unfolding straight_y

@@ -1,9 +1,10 @@
 -- What an edge reaches, by the flow's axis and by its path; whether a leg has a corner below 0, by the axis.
+use Rattle.std.specs.Prelude.{Option, Some, None, is_some}
 use mathlib.Core.Path.{◌≡◌, refl, sym, ◌∙◌, ap}
 use Prim.Native.Nat.{ℕ}
-use mathlib.Core.Bool.{Bool, false}
+use mathlib.Core.Bool.{Bool, true, false, not}
 use mathlib.Core.List.{List, [], ◌∷◌}
-use borrow.Author.Tests.{eq-eqb, ne_eqb}
+use borrow.Author.Tests.{ne_eqb}
 use Rattle.image.specs.declared.Edge.{Edge}
 use Rattle.image.specs.declared.Point.{Point}
 use Rattle.image.specs.declared.Span.{Span}
@@ -12,7 +13,6 @@ use Rattle.image.specs.declared.Path.TheVariants.{Direct, Corner, SideChannel, M
 use Rattle.image.specs.declared.FlowAxis.{FlowAxis}
 use Rattle.image.specs.declared.FlowAxis.TheVariants.{Y, X}
 use Rattle.rows.specs.declared.Window.{Window}
-use Rattle.flow.specs.declared.Coordinate.{Coordinate}
 use Rattle.flow.specs.declared.Leg.{Leg}
 use Rattle.flow.specs.declared.Piece.{Piece}
 use Rattle.flow.specs.declared.Reach.{Reach}
@@ -104,25 +104,25 @@ module _ (window : Window) (axis : FlowAxis) (e : Edge) (start r : Reach) where
     unfolding leg_on
     leg_on_x h a = rw a h
 
--- Whether a leg has a corner below 0: not where its ends do not differ across the flow, else by its corner.
+-- where no coordinate is, the corner lies below 0
+below_none : (corner : Option ℕ) (r : Bool) → is_some corner ≡ not r → r ≡ is_below corner
+unfolding is_below
+below_none None true h = refl
+below_none None false h = h
+below_none (Some n) true h = h
+below_none (Some n) false h = refl
+
+-- Whether a leg whose ends differ across the flow has a corner below 0: by its corner.
 
 module _ (axis : FlowAxis) (e : Edge) (offset : ℕ) (leg : Leg) where
-  pub straight_y_lem : leg.x1 ≡ leg.x2 → axis ≡ Y → false ≡ leg_below axis e offset leg
-  unfolding leg_below
-  straight_y_lem h a = rw (a, eq-eqb _ _ h)
-
-  pub straight_x_lem : leg.y1 ≡ leg.y2 → axis ≡ X → false ≡ leg_below axis e offset leg
-  unfolding leg_below
-  straight_x_lem h a = rw (a, eq-eqb _ _ h)
-
-  module _ (corner : Coordinate) (r : Bool) where
-    pub bent_y_lem : corner ≡ corner_row e offset leg → r ≡ is_below corner → (leg.x1 ≡ leg.x2 → ⊥) → axis ≡ Y → r ≡ leg_below axis e offset leg
+  module _ (corner : Option ℕ) (r : Bool) where
+    pub bent_y_lem : corner ≡ corner_row e offset leg → is_some corner ≡ not r → (leg.x1 ≡ leg.x2 → ⊥) → axis ≡ Y → r ≡ leg_below axis e offset leg
     unfolding leg_below
-    bent_y_lem c h n a = rw (a, ne_eqb _ _ n, ← c) h
+    bent_y_lem c h n a = rw (a, ne_eqb _ _ n, ← c) (below_none corner r h)
 
-    pub bent_x_lem : corner ≡ corner_column e offset leg → r ≡ is_below corner → (leg.y1 ≡ leg.y2 → ⊥) → axis ≡ X → r ≡ leg_below axis e offset leg
+    pub bent_x_lem : corner ≡ corner_column e offset leg → is_some corner ≡ not r → (leg.y1 ≡ leg.y2 → ⊥) → axis ≡ X → r ≡ leg_below axis e offset leg
     unfolding leg_below
-    bent_x_lem c h n a = rw (a, ne_eqb _ _ n, ← c) h
+    bent_x_lem c h n a = rw (a, ne_eqb _ _ n, ← c) (below_none corner r h)
 
 -- Only a MultiSegment has corners that can lie below 0.
 

@@ -1,22 +1,20 @@
 -- Code 6: "a MultiSegment corner lies below 0".
-use Rattle.std.specs.Prelude.{ℕ, ◌+◌, Bool, true, false, not, ◌&&◌, List, eqb}
+use Rattle.std.specs.Prelude.{ℕ, ◌+◌, Bool, true, false, not, ◌&&◌, List, eqb, Option, Some, None}
 use Rattle.ground.specs.Each.{numbers, some}
 use Rattle.image.specs.declared.Edge.{Edge}
 use Rattle.image.specs.declared.Path.{Path}
 use Rattle.image.specs.declared.Path.TheVariants.{Direct, Corner, SideChannel, MultiSegment, Orthogonal, Spline}
 use Rattle.image.specs.declared.FlowAxis.{FlowAxis}
 use Rattle.image.specs.declared.FlowAxis.TheVariants.{Y, X}
-use Rattle.flow.specs.declared.Coordinate.{Coordinate}
-use Rattle.flow.specs.declared.Coordinate.TheVariants as coordinate
 use Rattle.flow.specs.declared.Leg.{Leg}
 use Rattle.y_flow.specs.YFlow.{corner_row}
 use Rattle.x_flow.specs.XFlow.{corner_column}
 use Rattle.image.specs.Spans.{point_count}
 use Rattle.path.specs.Pieces.{leg_at}
 
-unfoldable pub is_below : Coordinate → Bool
-is_below (coordinate.At n) = false
-is_below coordinate.Below = true
+unfoldable pub is_below : Option ℕ → Bool
+is_below (Some n) = false
+is_below None = true
 
 -- a leg has a corner where its ends differ across the flow: on a row on Y flow, on a column on X flow
 unfoldable pub leg_below : FlowAxis → Edge → ℕ → Leg → Bool

@@ -1,40 +1,21 @@
 // Code 6: whether "a MultiSegment corner lies below 0".
 ghost use Rattle.std.specs.Prelude.{◌≡◌};
 ghost use Rattle.flow.specs.Bounds.{SmallLeg};
-ghost use Rattle.path.specs.Corners.{is_below, leg_below, multi_below, corner_below};
+ghost use Rattle.path.specs.Corners.{leg_below, multi_below, corner_below};
 
 use crate::legs;
-use flow::{Coordinate, Leg};
+use flow::Leg;
 use image::{Edge, FlowAxis, Path, Point};
 use orthogonal::points;
-
-fn is_below(corner: Coordinate) -> bool
-    ensures { result ≡ is_below corner }
-{
-    if let Coordinate::Below = corner {
-        true
-    } else {
-        false
-    }
-}
 
 // Whether a leg has a corner, and that below 0.
 pub fn leg_below(e: Edge, offset: u32, leg: Leg) -> bool
     requires { SmallLeg leg }
     ensures { result ≡ leg_below e.flow_axis e offset leg }
 {
-    let axis = e.flow_axis;
-    match axis {
-        FlowAxis::Y => if leg.x1 == leg.x2 {
-            false
-        } else {
-            is_below(y_flow::corner_row(e, offset, leg))
-        },
-        FlowAxis::X => if leg.y1 == leg.y2 {
-            false
-        } else {
-            is_below(x_flow::corner_column(e, offset, leg))
-        },
+    match e.flow_axis {
+        FlowAxis::Y => leg.x1 != leg.x2 && y_flow::corner_row(e, offset, leg).is_none(),
+        FlowAxis::X => leg.y1 != leg.y2 && x_flow::corner_column(e, offset, leg).is_none(),
     }
 }
 
@@ -44,19 +25,17 @@ fn multi_below(e: Edge, offset: u32, points: &[u32]) -> bool
 {
     let count = image::point_count(points);
     let mut a = points::source_point(e);
-    let mut k: usize = 0;
-    while k < count {
+    for k in 0..count {
         let b = image::point_at(points, k);
         if leg_below(e, offset, legs::leg_between(a, b, k == 0, false)) {
             return true;
         }
         a = b;
-        k += 1;
     }
     leg_below(
         e,
         offset,
-        legs::leg_between(a, points::target_point(e), k == 0, true),
+        legs::leg_between(a, points::target_point(e), count == 0, true),
     )
 }
 

@@ -60,15 +60,13 @@ fn multi_reach(window: Window, e: Edge, offset: u32, points: &[u32]) -> Reach
     let count = image::point_count(points);
     let mut reach = touch::no_reach();
     let mut a = points::source_point(e);
-    let mut k: usize = 0;
-    while k < count {
+    for k in 0..count {
         let b = image::point_at(points, k);
         let leg = legs::leg_between(a, b, k == 0, false);
         reach = leg_reach(reach, window, e, offset, leg);
         a = b;
-        k += 1;
     }
-    let leg = legs::leg_between(a, points::target_point(e), k == 0, true);
+    let leg = legs::leg_between(a, points::target_point(e), count == 0, true);
     leg_reach(reach, window, e, offset, leg)
 }
 

@@ -9,15 +9,12 @@ use lib.ListN.{length, take, drop}
 use lib.Seq.{take_at, drop_at}
 use lib.Dec.{eqb, ltb}
 use borrow.Author.Tests.{le-leb, lt-leb, ltb-true, eqb-true, eqb-false}
-use Rattle.ground.specs.declared.Found.{Found}
-use Rattle.ground.specs.declared.Found.TheVariants as found
+use Rattle.std.specs.Prelude.{Option, Some, None, Ok, Err}
 use Rattle.ground.specs.Each.{every, numbers, each}
 use Rattle.ground.specs.Judged.{Judged, first_bad, FirstBad}
 use Rattle.ground.proofs.Each.{by_bool, and_left, and_right}
 use Rattle.ground.proofs.Judged.{all_good, bad_first}
-use Rattle.refusals.specs.declared.Verdict.{Verdict}
-use Rattle.refusals.specs.declared.Verdict.TheVariants.{Passed, Refused}
-use Rattle.refusals.specs.FirstBroken.{Rule, refused_at, first_broken}
+use Rattle.refusals.specs.FirstBroken.{Verdict, Passed, Refused, Rule, refused_at, first_broken}
 use Rattle.refusals.specs.Rules.{rules, checked}
 use Rattle.refusals.proofs.FirstBroken.{and_then, broken_append, first_broken_lem}
 use Rattle.refusals.proofs.Theorems.{accepted_passes, first}
@@ -49,10 +46,15 @@ same_needed v w needed lent other n long e p =
 
 -- Rules that all have a code do not refuse with code 0.
 
+-- the code that a verdict gives
+abbrev pub given_code : Verdict → ℕ
+given_code (Ok passed) = 0
+given_code (Err refusal) = refusal.code
+
 no_code_now :
-    (code place : ℕ) (f : Found) (later : Verdict) → 0 < code → (later ≡ Refused 0 place → ⊥) → refused_at code f later ≡ Refused 0 place → ⊥
-no_code_now code place found.None later some none e = none e
-no_code_now code place (found.At p) later some none e = let zero : code ≡ 0 = cc in omega arith
+    (code place : ℕ) (f : Option ℕ) (later : Verdict) → 0 < code → (later ≡ Refused 0 place → ⊥) → refused_at code f later ≡ Refused 0 place → ⊥
+no_code_now code place None later some none e = none e
+no_code_now code place (Some p) later some none e = let zero : code ≡ 0 = ap given_code e in omega arith
 
 pub no_code : (rs : List Rule) (place : ℕ) → every rs (λ r. ltb 0 r.code) ≡ true → first_broken rs ≡ Refused 0 place → ⊥
 unfolding every first_broken
@@ -78,7 +80,7 @@ module _ (image : List ℕ) (asked lent : List Judged) where
   pub call_verdict : (checked image).code ≡ 0 → verdict ≡ first_broken (lent_rules asked lent)
   call_verdict z = parts ∙ rw (accepted_passes image z)
 
-  pub call_outside : (checked image).code ≡ 0 → (place : ℕ) → first_bad asked ≡ found.At place → verdict ≡ Refused outside_sheet place
+  pub call_outside : (checked image).code ≡ 0 → (place : ℕ) → first_bad asked ≡ Some place → verdict ≡ Refused outside_sheet place
   unfolding first_broken
   call_outside z place b = call_verdict z ∙ rw b
 
@@ -100,7 +102,7 @@ module _ (image : List ℕ) (asked lent : List Judged) where
       (λ n.
       let some = eqb-false (checked image).code 0 n in
       let r = call_refused some in
-      some (cc))
+      some (ap given_code (sym r ∙ e)))
 
 -- The verdict on a band.
 module _ (image : List ℕ) (top rows : ℕ) (lent : List Judged) where
@@ -108,7 +110,7 @@ module _ (image : List ℕ) (top rows : ℕ) (lent : List Judged) where
   unfolding every band_judged
   inside_good h = rw (le-leb _ _ h)
 
-  outside_bad : height image < top + rows → first_bad (band_judged image top rows) ≡ found.At 0
+  outside_bad : height image < top + rows → first_bad (band_judged image top rows) ≡ Some 0
   unfolding first_bad band_judged
   outside_bad h = rw (lt-leb _ _ h)
 

@@ -1,6 +1,8 @@
 -- What all ink keeps, where the strokes and the glyphs have a property each, each row of a picture has: so each cell is the packing of valid parts, where the
 -- glyphs are Unicode's.
+use Rattle.std.specs.Prelude.{Option, None, Some}
 use native.Mathlib.Omega.{arith}
+use Rattle.std.specs.Prelude.{Option, Some, None}
 use Prim.Native.Nat.{ℕ, ◌+◌, ◌*◌, ◌≤◌, ◌<◌}
 use mathlib.Core.Bool.{Bool, true, false, ◌&&◌}
 use mathlib.Core.List.{List}
@@ -31,18 +33,14 @@ use Rattle.layout.specs.Tables.{word, table_end, record_at, field, tables_of}
 use Rattle.image.specs.declared.Span.{Span}
 use Rattle.image.specs.declared.Node.{Node}
 use Rattle.image.specs.declared.Edge.{Edge}
-use Rattle.image.specs.declared.EdgeLabel.{EdgeLabel}
-use Rattle.image.specs.declared.EdgeLabel.TheVariants as label
 use Rattle.image.specs.declared.LabelPolicy.{LabelPolicy}
-use Rattle.image.specs.declared.SelfLoop.{SelfLoop}
-use Rattle.image.specs.declared.SelfLoop.TheVariants as loop
+use Rattle.image.specs.declared.Point.{Point}
 use Rattle.image.specs.declared.Subgraph.{Subgraph}
 use Rattle.image.specs.declared.PlacedLabel.{PlacedLabel}
 use Rattle.image.specs.Records.{edge_at, placed_label_at}
 use Rattle.image.specs.Spans.{span_inside, span_words}
 use Rattle.rows.specs.Spots.{Ink, stroke, marker, glyph, Spot, at}
 use Rattle.flow.specs.declared.Head.{Head}
-use Rattle.flow.specs.declared.Head.TheVariants as head
 use Rattle.flow.specs.declared.Line.{Line}
 use Rattle.flow.specs.declared.Piece.{Piece}
 use Rattle.flow.specs.Flow.{corner}
@@ -151,9 +149,9 @@ module _ (S : Arms → Type 0) (Q : ℕ → Type 0)
   unfolding subgraph_label_spots
   subgraph_label_good ranges s {glyphs} p = all_when (has_label s glyphs) (λ e. text_good ranges _ _ (fitting_good ranges _ p))
 
-  arrow_good : (dashed : Bool) (h : Head) (n : ℕ) {other : Ink} → GoodInk other → GoodInk (arrow_or dashed h n other)
-  arrow_good dashed head.None n p = p
-  arrow_good dashed (head.At place dir) n p = cond_holds GoodInk (eqb place n) a_marker p
+  arrow_good : (dashed : Bool) (h : Option Head) (n : ℕ) {other : Ink} → GoodInk other → GoodInk (arrow_or dashed h n other)
+  arrow_good dashed None n p = p
+  arrow_good dashed (Some h) n p = cond_holds GoodInk (eqb h.place n) a_marker p
 
   line_good : (dashed : Bool) (l : Line) (arms : Arms) (n : ℕ) → S arms → GoodInk (line_ink dashed l arms n)
   line_good dashed l arms n s = arrow_good dashed l.winner n (arrow_good dashed l.other n (a_stroke s))
@@ -177,9 +175,9 @@ module _ (S : Arms → Type 0) (Q : ℕ → Type 0)
     unfolding edge_spots
     edge_good points = pieces_good (edge_pieces e points)
 
-  loop_good_lem : (l : SelfLoop) → AllOf GoodSpot (loop_spots l)
-  loop_good_lem loop.None = none
-  loop_good_lem (loop.At x y) = more (spot a_marker) none
+  loop_good_lem : (l : Option Point) → AllOf GoodSpot (loop_spots l)
+  loop_good_lem None = none
+  loop_good_lem (Some p) = more (spot a_marker) none
 
   simple_good : (ranges : List ℕ) (n : Node) {glyphs : List ℕ} → AllOf Q glyphs → AllOf GoodSpot (simple_spots ranges n glyphs)
   simple_good ranges n p =
@@ -196,11 +194,11 @@ module _ (S : Arms → Type 0) (Q : ℕ → Type 0)
   look_good ranges n Blank p = loop_good_lem n.self_loop
 
   placed_good :
-      (policy : LabelPolicy) (ranges : List ℕ) (p : PlacedLabel) (l : EdgeLabel) {glyphs : List ℕ} → AllOf Q glyphs →
+      (policy : LabelPolicy) (ranges : List ℕ) (p : PlacedLabel) (l : Option Span) {glyphs : List ℕ} → AllOf Q glyphs →
       AllOf GoodSpot (placed_label_spots policy ranges p l glyphs)
   unfolding placed_label_spots
-  placed_good policy ranges p label.None h = none
-  placed_good policy ranges p (label.Present span) h =
+  placed_good policy ranges p None h = none
+  placed_good policy ranges p (Some span) h =
       all_when (paints_under policy p)
       (λ e. text_good ranges _ _ (more (fixed 0x22 quote) (all_append h (more (fixed 0x22 quote) none))))
 
@@ -253,9 +251,9 @@ module _ (S : Arms → Type 0) (Q : ℕ → Type 0)
         let few : i < span.count = omega (arith, rw one at short) in
         rw (get_or-take count rest i 0 short, get_or-drop (record_at ts.glyphs span.start) image i 0) (glyph_good span.start i (omega arith))))
 
-    label_good : (l : EdgeLabel) → AllOf Q (edge_label_glyphs image ts l)
-    label_good label.None = none
-    label_good (label.Present span) = glyphs_good span
+    label_good : (l : Option Span) → AllOf Q (edge_label_glyphs image ts l)
+    label_good None = none
+    label_good (Some span) = glyphs_good span
 
     borders_good : AllOf GoodWrite (borders image ts)
     unfolding border_writes

@@ -21,8 +21,7 @@ use Rattle.layout.specs.Layout.{glyph_value}
 use Rattle.layout.specs.Tables.{field, tables_of}
 use Rattle.things.specs.Things.{ranges_of}
 use Rattle.controls.specs.Controls.{Control}
-use Rattle.refusals.specs.declared.Verdict.{Verdict}
-use Rattle.refusals.specs.declared.Verdict.TheVariants.{Passed}
+use Rattle.refusals.specs.FirstBroken.{Verdict, Passed}
 use Rattle.refusals.specs.Accepted.{Keeps}
 use Rattle.picture.specs.Picture.{width, picture_row, picture_cells}
 use Rattle.picture.specs.Painted.{room, afterwards}

@@ -1,4 +1,5 @@
 -- Two images that differ only in element list and run capacity have one picture.
+use Rattle.std.specs.Prelude.{Option, Some, None}
 use native.Mathlib.Omega.{arith}
 use Prim.Native.Nat.{ℕ, ◌+◌, ◌*◌, ◌≤◌, ◌<◌}
 use mathlib.Core.List.{List}
@@ -17,8 +18,6 @@ use Rattle.layout.proofs.Laws.{record_inside}
 use Rattle.image.specs.declared.Span.{Span}
 use Rattle.image.specs.declared.Node.{Node}
 use Rattle.image.specs.declared.Edge.{Edge}
-use Rattle.image.specs.declared.EdgeLabel.{EdgeLabel}
-use Rattle.image.specs.declared.EdgeLabel.TheVariants as label
 use Rattle.image.specs.declared.Subgraph.{Subgraph}
 use Rattle.image.specs.declared.PlacedLabel.{PlacedLabel}
 use Rattle.image.specs.Records.{header_of, node_at, edge_at, subgraph_at, placed_label_at}
@@ -82,9 +81,9 @@ module _ (a b : List ℕ) (ts us : Tables) (s : Same a b ts us) where
       each_same (runs_of_edge a ts) (runs_of_edge b us) _ _ s.edge_count
       (λ k h. ap₂ (λ (e : Edge) (points : List ℕ). each (pieces e points) (piece_runs e (k + 1))) (s.edge k h) (points_same k h))
 
-  label_same : (l : EdgeLabel) → edge_label_glyphs a ts l ≡ edge_label_glyphs b us l
-  label_same label.None = refl
-  label_same (label.Present span) = s.glyphs span
+  label_same : (l : Option Span) → edge_label_glyphs a ts l ≡ edge_label_glyphs b us l
+  label_same None = refl
+  label_same (Some span) = s.glyphs span
 
   of_label_same : (p : PlacedLabel) (e : Edge) → writes_of_label a ts p e ≡ writes_of_label b us p e
   of_label_same p e = rw (s.policy, s.ranges, label_same e.label)

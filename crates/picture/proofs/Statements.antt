@@ -10,8 +10,7 @@ use Rattle.layout.specs.Layout.{header_runs, header_elements}
 use Rattle.layout.specs.Tables.{word, table_end, element_table}
 use Rattle.rows.specs.declared.Window.{Window}
 use Rattle.window.specs.Writes.{Canvas, canvas}
-use Rattle.refusals.specs.declared.Verdict.{Verdict}
-use Rattle.refusals.specs.declared.Verdict.TheVariants.{Passed, Refused}
+use Rattle.refusals.specs.FirstBroken.{Verdict, Passed, Refused}
 use Rattle.refusals.specs.Rules.{checked}
 use Rattle.picture.specs.Picture.{height, picture_cells, picture_colours}
 use Rattle.picture.specs.Painted.{room, scratch_room, outside_sheet, too_little_room, Painted, painted, PaintedColoured, painted_coloured}

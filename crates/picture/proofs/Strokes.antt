@@ -1,4 +1,5 @@
 -- Of which weights the strokes are made: those of an edge are of its own, those of runs of one that is not 0.
+use Rattle.std.specs.Prelude.{Option, Some, None}
 use native.Mathlib.Omega.{arith}
 use Prim.Native.Nat.{ℕ, ◌+◌, ◌≤◌, ◌<◌, min, max}
 use mathlib.Core.Bool.{Bool, not, ◌&&◌}
@@ -20,8 +21,6 @@ use Rattle.image.specs.declared.Path.{Path}
 use Rattle.image.specs.declared.Path.TheVariants.{Direct, Corner, SideChannel, MultiSegment, Orthogonal, Spline}
 use Rattle.image.specs.declared.FlowAxis.{FlowAxis}
 use Rattle.image.specs.declared.FlowAxis.TheVariants.{Y, X}
-use Rattle.flow.specs.declared.Coordinate.{Coordinate}
-use Rattle.flow.specs.declared.Coordinate.TheVariants as coordinate
 use Rattle.flow.specs.declared.Bend.{Bend}
 use Rattle.flow.specs.declared.Leg.{Leg}
 use Rattle.flow.specs.declared.Line.{Line}
@@ -33,7 +32,6 @@ use Rattle.y_flow.specs.YFlow.{channel_line_y, side_y, straight_line_y, straight
 use Rattle.x_flow.specs.XFlow.{direct_x, cross_line_x, cross_first_x, cross_last_x, trunk_x, own_start_x, tail_x, bent_x, corner_x}
 use Rattle.x_flow.specs.XFlow.{channel_line_x, side_x, straight_line_x, straight_x, corner_column, crossing_x, leg_x}
 use Rattle.orthogonal.specs.declared.EndMark.{EndMark}
-use Rattle.orthogonal.specs.declared.EndMark.TheVariants as end
 use Rattle.orthogonal.specs.declared.PathLeg.{PathLeg}
 use Rattle.orthogonal.specs.Points.{leg_count}
 use Rattle.orthogonal.specs.Orthogonal.{column_line, row_line, leg_line, bend_arms, mark_or, bend_piece, leg_bend_piece, leg_pieces, path_leg, pieces_along}
@@ -106,10 +104,10 @@ module _ (e : Edge) where
   unfolding side_y channel_line_y tail_y
   side_y_lem channel start end = crossing_y_lem e.weight _ _ start _ channel (more a_vertical (crossing_y_lem e.weight _ _ end channel _ (more a_vertical none)))
 
-  crossed_y : (offset : ℕ) (leg : Leg) (c : Coordinate) → PiecesOf e.weight (crossing_y e offset leg c)
+  crossed_y : (offset : ℕ) (leg : Leg) (c : Option ℕ) → PiecesOf e.weight (crossing_y e offset leg c)
   unfolding crossing_y
-  crossed_y offset leg coordinate.Below = none
-  crossed_y offset leg (coordinate.At row) = bent_y_lem e.weight _ _
+  crossed_y offset leg None = none
+  crossed_y offset leg (Some row) = bent_y_lem e.weight _ _
 
   leg_y_lem : (offset : ℕ) (leg : Leg) → PiecesOf e.weight (leg_y e offset leg)
   unfolding leg_y straight_y straight_line_y
@@ -161,10 +159,10 @@ module _ (e : Edge) where
       more (trunk_x_lem e.weight _ _)
       (crossing_x_lem e.weight _ _ start _ channel (more a_horizontal (crossing_x_lem e.weight _ _ end channel _ (more a_horizontal none))))
 
-  crossed_x : (offset : ℕ) (leg : Leg) (c : Coordinate) → PiecesOf e.weight (crossing_x e offset leg c)
+  crossed_x : (offset : ℕ) (leg : Leg) (c : Option ℕ) → PiecesOf e.weight (crossing_x e offset leg c)
   unfolding crossing_x
-  crossed_x offset leg coordinate.Below = none
-  crossed_x offset leg (coordinate.At column) = bent_x_lem e.weight _ _
+  crossed_x offset leg None = none
+  crossed_x offset leg (Some column) = bent_x_lem e.weight _ _
 
   leg_x_lem : (offset : ℕ) (leg : Leg) → PiecesOf e.weight (leg_x e offset leg)
   unfolding leg_x straight_x straight_line_x
@@ -175,18 +173,18 @@ module _ (e : Edge) where
 
 -- Orthogonal.
 module _ (w : Weight) where
-  mark_or_lem : (m : EndMark) (x y : ℕ) {other : Piece} → PieceOf w other → PieceOf w (mark_or m x y other)
+  mark_or_lem : (m : Option EndMark) (x y : ℕ) {other : Piece} → PieceOf w other → PieceOf w (mark_or m x y other)
   unfolding mark_or
-  mark_or_lem end.None x y p = p
-  mark_or_lem (end.At column row dir) x y p = cond_holds (PieceOf w) (eqb column x && eqb row y) a_mark p
+  mark_or_lem None x y p = p
+  mark_or_lem (Some m) x y p = cond_holds (PieceOf w) (eqb m.x x && eqb m.y y) a_mark p
 
-  leg_bend_lem : (target source : EndMark) (leg : PathLeg) → PieceOf w (leg_bend_piece w target source leg)
+  leg_bend_lem : (target source : Option EndMark) (leg : PathLeg) → PieceOf w (leg_bend_piece w target source leg)
   unfolding leg_bend_piece bend_piece
   leg_bend_lem target source leg =
       cond_holds (PieceOf w) leg.first nothing
       (mark_or_lem target _ _ (mark_or_lem source _ _ (a_stroke (at_bend leg.from leg.before leg.to))))
 
-  leg_line_lem : (target source : EndMark) (leg : PathLeg) → PieceOf w (leg_line target source leg)
+  leg_line_lem : (target source : Option EndMark) (leg : PathLeg) → PieceOf w (leg_line target source leg)
   unfolding leg_line column_line row_line
   leg_line_lem target source leg =
       cond_holds (PieceOf w) (eqb leg.from.x leg.to.x) a_vertical

@@ -11,7 +11,7 @@ use Rattle.rows.specs.declared.Window.{Window}
 use Rattle.things.specs.Things.{sheet_of}
 use Rattle.window.specs.Writes.{canvas}
 use Rattle.controls.specs.Controls.{Control}
-use Rattle.refusals.specs.declared.Verdict.TheVariants.{Passed, Refused}
+use Rattle.refusals.specs.FirstBroken.{Passed, Refused}
 use Rattle.refusals.specs.Rules.{checked}
 use Rattle.refusals.proofs.Theorems.{accepted_iff}
 use Rattle.picture.specs.Picture.{width, height, picture_row, picture_cells, picture_colours}

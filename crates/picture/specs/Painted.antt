@@ -1,11 +1,9 @@
 -- What `paint` and `paint_coloured` answer, and each lent word afterwards: refused, and all as before; or the band.
-use Rattle.std.specs.Prelude.{ℕ, ◌+◌, ◌*◌, List, [], ◌∷◌, ◌++◌, length, drop, replicate, leb}
+use Rattle.std.specs.Prelude.{ℕ, ◌+◌, ◌*◌, List, [], ◌∷◌, ◌++◌, length, drop, replicate, leb, Ok, Err}
 use Rattle.ground.specs.Judged.{Judged, judged}
 use Rattle.layout.specs.Layout.{header_runs, header_elements}
 use Rattle.layout.specs.Tables.{word}
-use Rattle.refusals.specs.declared.Verdict.{Verdict}
-use Rattle.refusals.specs.declared.Verdict.TheVariants.{Passed, Refused}
-use Rattle.refusals.specs.FirstBroken.{Rule, rule, first_broken}
+use Rattle.refusals.specs.FirstBroken.{Verdict, Passed, Refused, Rule, rule, first_broken}
 use Rattle.refusals.specs.Rules.{rules}
 use Rattle.picture.specs.Picture.{width, height, picture_cells, picture_colours}
 
@@ -73,8 +71,8 @@ coloured_verdict image first rows cells colours stamps scratch =
 
 -- "the needed part .. holds ..; all beyond is unchanged"; on a refusal all is
 unfoldable pub afterwards : Verdict → List ℕ → List ℕ → List ℕ
-afterwards Passed needed lent = needed ++ drop (length needed) lent
-afterwards (Refused code place) needed lent = lent
+afterwards (Ok passed) needed lent = needed ++ drop (length needed) lent
+afterwards (Err refusal) needed lent = lent
 
 -- "On success the needed part of cells and colours holds the band, of stamps and scratch holds zeros"
 

@@ -1,10 +1,9 @@
 -- What each thing of an image writes, by its index: ink with its colour and stamp, and the runs of an edge, which wait.
-use Rattle.std.specs.Prelude.{ℕ, ◌+◌, cond, List, [], eqb}
+use Rattle.std.specs.Prelude.{ℕ, ◌+◌, cond, List, [], eqb, Option, Some, None}
 use Rattle.ground.specs.Each.{numbers, each}
 use Rattle.layout.specs.declared.Tables.{Tables}
 use Rattle.image.specs.declared.Edge.{Edge}
-use Rattle.image.specs.declared.EdgeLabel.{EdgeLabel}
-use Rattle.image.specs.declared.EdgeLabel.TheVariants as label
+use Rattle.image.specs.declared.Span.{Span}
 use Rattle.image.specs.declared.PlacedLabel.{PlacedLabel}
 use Rattle.image.specs.declared.Subgraph.{Subgraph}
 use Rattle.image.specs.Records.{header_of, node_at, edge_at, subgraph_at, placed_label_at}
@@ -38,9 +37,9 @@ runs_of_edge image ts k =
 
 -- "Placed labels, label colour": the glyphs are those of its edge's label
 
-abbrev pub edge_label_glyphs : List ℕ → Tables → EdgeLabel → List ℕ
-edge_label_glyphs image ts label.None = []
-edge_label_glyphs image ts (label.Present span) = label_glyphs image ts span
+abbrev pub edge_label_glyphs : List ℕ → Tables → Option Span → List ℕ
+edge_label_glyphs image ts None = []
+edge_label_glyphs image ts (Some span) = label_glyphs image ts span
 
 abbrev pub writes_of_label : List ℕ → Tables → PlacedLabel → Edge → List Write
 writes_of_label image ts p e =

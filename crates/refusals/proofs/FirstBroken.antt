@@ -3,26 +3,23 @@ use native.Mathlib.Omega.{arith}
 use Prim.Native.Nat.{ℕ}
 use mathlib.Core.Bool.{true}
 use mathlib.Core.List.{List, [], ◌∷◌, ◌++◌}
-use mathlib.Core.Path.{◌≡◌, refl, sym, ap}
-use Rattle.ground.specs.declared.Found.{Found}
-use Rattle.ground.specs.declared.Found.TheVariants as found
+use mathlib.Core.Path.{◌≡◌, refl, sym, ◌∙◌, ap}
+use Rattle.std.specs.Prelude.{Option, Some, None, Ok, Err}
 use Rattle.ground.specs.Each.{every}
 use Rattle.ground.specs.Judged.{Judged, first_bad}
 use Rattle.ground.proofs.Each.{and_left, and_right, and_both}
 use Rattle.ground.proofs.Judged.{first_bad_lem, none_bad, all_good, bad_first}
-use Rattle.refusals.specs.declared.Answer.{Answer}
-use Rattle.refusals.specs.declared.Verdict.{Verdict}
-use Rattle.refusals.specs.declared.Verdict.TheVariants.{Passed, Refused}
-use Rattle.refusals.specs.FirstBroken.{Rule, rule, kept, refused_at, first_broken, BrokenFirst, refused, accepted, answer_of}
+use Rattle.refusals.specs.declared.Refusal.{Refusal}
+use Rattle.refusals.specs.FirstBroken.{Verdict, Passed, Refused, Rule, rule, kept, refused_at, first_broken, BrokenFirst}
 
 -- a verdict, and that of later rules
 abbrev pub and_then : Verdict → Verdict → Verdict
-and_then Passed later = later
-and_then (Refused code place) later = Refused code place
+and_then (Ok passed) later = later
+and_then (Err refusal) later = Err refusal
 
-later_then : (code : ℕ) (f : Found) (v w : Verdict) → refused_at code f (and_then v w) ≡ and_then (refused_at code f v) w
-later_then code found.None v w = refl
-later_then code (found.At place) v w = refl
+later_then : (code : ℕ) (f : Option ℕ) (v w : Verdict) → refused_at code f (and_then v w) ≡ and_then (refused_at code f v) w
+later_then code None v w = refl
+later_then code (Some place) v w = refl
 
 -- Two lists of rules one after the other.
 pub broken_append : (k l : List Rule) → first_broken (k ++ l) ≡ and_then (first_broken k) (first_broken l)
@@ -32,30 +29,41 @@ broken_append (r ∷ k) l = rw (broken_append k l) (later_then r.code (first_bad
 
 -- A turn at the first rule, by what was found.
 
-module _ (code : ℕ) (looked : List Judged) (rest : List Rule) (f : Found) (e : f ≡ first_bad looked) where
-  pub refuses : (place : ℕ) → f ≡ found.At place → Refused code place ≡ first_broken (rule code looked ∷ rest)
+module _ (code : ℕ) (looked : List Judged) (rest : List Rule) (f : Option ℕ) (e : f ≡ first_bad looked) where
+  pub refuses : (place : ℕ) → f ≡ Some place → Refused code place ≡ first_broken (rule code looked ∷ rest)
   unfolding first_broken
   refuses place h = rw (← e, h)
 
-  pub passes : (v : Verdict) → f ≡ found.None → v ≡ first_broken rest → v ≡ first_broken (rule code looked ∷ rest)
+  pub passes : (v : Verdict) → f ≡ None → v ≡ first_broken rest → v ≡ first_broken (rule code looked ∷ rest)
   unfolding first_broken
   passes v h p = rw (← e, h) p
 
--- The same of the answer.
-
-module _ (runs : ℕ) (r : Answer) where
-  module _ (code : ℕ) (looked : List Judged) (rest : List Rule) (f : Found) (e : f ≡ first_bad looked) where
-    pub answer_refuses : (place : ℕ) → f ≡ found.At place → r ≡ refused code place → r ≡ answer_of (first_broken (rule code looked ∷ rest)) runs
-    unfolding first_broken
-    answer_refuses place h p = rw (← e, h) p
-
-    pub answer_passes : f ≡ found.None → r ≡ answer_of (first_broken rest) runs → r ≡ answer_of (first_broken (rule code looked ∷ rest)) runs
-    unfolding first_broken
-    answer_passes h p = rw (← e, h) p
-
-  pub answer_accepts : r ≡ accepted runs → r ≡ answer_of (first_broken []) runs
+  -- the same by what the rule comes to by itself
+  pub breaks : (refusal : Refusal) (v : Verdict) → v ≡ refused_at code f Passed → v ≡ Err refusal → Err refusal ≡ first_broken (rule code looked ∷ rest)
   unfolding first_broken
-  answer_accepts p = p
+  breaks refusal v p h = by f e (sym p ∙ h)
+    where
+      by : (g : Option ℕ) → g ≡ first_bad looked → refused_at code g Passed ≡ Err refusal → Err refusal ≡ refused_at code (first_bad looked) (first_broken rest)
+      by None q k = let z : ◌≡◌ {A = ℕ} 0 1 = cc in absurd (omega arith)
+      by (Some place) q k = rw (← q) (sym k)
+
+  pub keeps : (v : Verdict) (passed : Unit {0}) → v ≡ refused_at code f Passed → v ≡ Ok passed → first_broken rest ≡ first_broken (rule code looked ∷ rest)
+  unfolding first_broken
+  keeps v passed p h = by f e (sym p ∙ h)
+    where
+      by : (g : Option ℕ) → g ≡ first_bad looked → refused_at code g Passed ≡ Ok passed → first_broken rest ≡ refused_at code (first_bad looked) (first_broken rest)
+      by None q k = rw (← q)
+      by (Some place) q k = let z : ◌≡◌ {A = ℕ} 0 1 = cc in absurd (omega arith)
+
+  -- the last rule
+  pub last : (v : Verdict) → v ≡ refused_at code f Passed → rest ≡ [] → v ≡ first_broken (rule code looked ∷ rest)
+  unfolding first_broken
+  last v p n = p ∙ rw (e, n)
+
+-- what was found where a rule is kept
+pub nothing_found : (code : ℕ) (f : Option ℕ) (v : Verdict) (passed : Unit {0}) → v ≡ refused_at code f Passed → v ≡ Ok passed → f ≡ None
+nothing_found code None v passed p h = refl
+nothing_found code (Some place) v passed p h = let z : ◌≡◌ {A = ℕ} 0 1 = cc in absurd (omega arith)
 
 -- no rule is left
 pub none_left : Passed ≡ first_broken []
@@ -64,15 +72,15 @@ none_left = refl
 
 -- A rule is kept, and those after it, exactly where nothing is found.
 
-pub kept_first : (code : ℕ) (looked : List Judged) (rest : List Rule) → first_broken (rule code looked ∷ rest) ≡ Passed → (first_bad looked ≡ found.None) × (first_broken rest ≡ Passed)
+pub kept_first : (code : ℕ) (looked : List Judged) (rest : List Rule) → first_broken (rule code looked ∷ rest) ≡ Passed → (first_bad looked ≡ None) × (first_broken rest ≡ Passed)
 unfolding first_broken
 kept_first code looked rest e = by (first_bad looked) refl e
   where
-    by : (f : Found) → first_bad looked ≡ f → refused_at code f (first_broken rest) ≡ Passed → (first_bad looked ≡ found.None) × (first_broken rest ≡ Passed)
-    by found.None p h = (p, h)
-    by (found.At place) p h = let z : ◌≡◌ {A = ℕ} 0 1 = cc in absurd (omega arith)
+    by : (f : Option ℕ) → first_bad looked ≡ f → refused_at code f (first_broken rest) ≡ Passed → (first_bad looked ≡ None) × (first_broken rest ≡ Passed)
+    by None p h = (p, h)
+    by (Some place) p h = let z : ◌≡◌ {A = ℕ} 0 1 = cc in absurd (omega arith)
 
-pub first_kept : (code : ℕ) (looked : List Judged) (rest : List Rule) → first_bad looked ≡ found.None → first_broken rest ≡ Passed → first_broken (rule code looked ∷ rest) ≡ Passed
+pub first_kept : (code : ℕ) (looked : List Judged) (rest : List Rule) → first_bad looked ≡ None → first_broken rest ≡ Passed → first_broken (rule code looked ∷ rest) ≡ Passed
 unfolding first_broken
 first_kept code looked rest p q = rw p q
 
@@ -81,9 +89,9 @@ no_verdict code place e = let z : ◌≡◌ {A = ℕ} 0 1 = cc in absurd (omega 
 
 -- None is broken exactly where each is kept.
 
-passed_kept : (code : ℕ) (looked : List Judged) (f : Found) (v : Verdict) → first_bad looked ≡ f → refused_at code f v ≡ Passed → (every looked (λ j. j.good) ≡ true) × (v ≡ Passed)
-passed_kept code looked found.None v e h = (none_bad looked e, h)
-passed_kept code looked (found.At place) v e h = no_verdict code place (sym h)
+passed_kept : (code : ℕ) (looked : List Judged) (f : Option ℕ) (v : Verdict) → first_bad looked ≡ f → refused_at code f v ≡ Passed → (every looked (λ j. j.good) ≡ true) × (v ≡ Passed)
+passed_kept code looked None v e h = (none_bad looked e, h)
+passed_kept code looked (Some place) v e h = no_verdict code place (sym h)
 
 pub passed_all : (rules : List Rule) → first_broken rules ≡ Passed → every rules kept ≡ true
 unfolding first_broken every
@@ -111,16 +119,24 @@ broken_more r rules code place k b = record {
   first = b.first;
 }
 
+abbrev code_of : Verdict → ℕ
+code_of (Ok passed) = 0
+code_of (Err refusal) = refusal.code
+
+abbrev place_of : Verdict → ℕ
+place_of (Ok passed) = 0
+place_of (Err refusal) = refusal.place
+
 broken_now :
-    (r : Rule) (rules : List Rule) (code place : ℕ) (f : Found) → first_bad r.looked ≡ f →
+    (r : Rule) (rules : List Rule) (code place : ℕ) (f : Option ℕ) → first_bad r.looked ≡ f →
     (first_broken rules ≡ Refused code place → BrokenFirst rules code place) →
     refused_at r.code f (first_broken rules) ≡ Refused code place →
     BrokenFirst (r ∷ rules) code place
 unfolding every
-broken_now r rules code place found.None e later h = broken_more r rules code place (none_bad r.looked e) (later h)
-broken_now r rules code place (found.At p) e later h =
-    let c : r.code ≡ code = cc in
-    let q : p ≡ place = cc in
+broken_now r rules code place None e later h = broken_more r rules code place (none_bad r.looked e) (later h)
+broken_now r rules code place (Some p) e later h =
+    let c : r.code ≡ code = ap code_of h in
+    let q : p ≡ place = ap place_of h in
     record {
       before = [];
       looked = r.looked;

@@ -3,8 +3,7 @@ use native.Mathlib.Omega.{arith}
 use Prim.Native.Nat.{ℕ, ◌≤◌}
 use mathlib.Core.List.{List}
 use mathlib.Core.Path.{◌≡◌, sym}
-use Rattle.ground.specs.declared.Found.{Found}
-use Rattle.ground.specs.declared.Found.TheVariants as found
+use Rattle.std.specs.Prelude.{Option, None}
 use Rattle.ground.specs.Judged.{first_bad}
 use Rattle.glyph.specs.Width.{width_of}
 use Rattle.glyph.specs.Ranges.{opening}
@@ -31,8 +30,7 @@ use Rattle.controls.specs.Controls.{controls_judged}
 use Rattle.corners.specs.Corners.{corners_judged}
 use Rattle.listing.specs.Listing.{listed_judged}
 use Rattle.listing.specs.Computed.{Ready}
-use Rattle.refusals.specs.declared.Verdict.TheVariants.{Passed}
-use Rattle.refusals.specs.FirstBroken.{first_broken}
+use Rattle.refusals.specs.FirstBroken.{Passed, first_broken}
 use Rattle.refusals.specs.Rules.{too_short, over_limit, wrong_length, bad_field, bad_range, control_character, corner_below_zero, listed_twice, out_of_order, not_listed, too_many_runs}
 use Rattle.refusals.specs.Rules.{short_judged, length_judged, ranges_judged, runs_judged, content_rules, form_rules, touch_rules, listing_rules}
 use Rattle.refusals.proofs.FirstBroken.{none_left, kept_first, first_kept}
@@ -40,20 +38,20 @@ use Rattle.refusals.proofs.Accepted.{length_iff, ranges_kept}
 
 -- codes 1 to 6 and 13 find nothing
 pub record FormKept (image : List ℕ) : Type 0 where
-  pub short : first_bad (short_judged image) ≡ found.None
-  pub header : first_bad (header_judged image) ≡ found.None
-  pub wholes : first_bad (length_judged image) ≡ found.None
-  pub fields : first_bad (records_judged image (tables_of image)) ≡ found.None
-  pub ranges : first_bad (ranges_judged image (tables_of image)) ≡ found.None
-  pub controls : first_bad (controls_judged image (tables_of image).glyphs) ≡ found.None
-  pub corners : first_bad (corners_judged image (tables_of image)) ≡ found.None
+  pub short : first_bad (short_judged image) ≡ None
+  pub header : first_bad (header_judged image) ≡ None
+  pub wholes : first_bad (length_judged image) ≡ None
+  pub fields : first_bad (records_judged image (tables_of image)) ≡ None
+  pub ranges : first_bad (ranges_judged image (tables_of image)) ≡ None
+  pub controls : first_bad (controls_judged image (tables_of image).glyphs) ≡ None
+  pub corners : first_bad (corners_judged image (tables_of image)) ≡ None
 
 -- codes 7 to 10 find nothing
 pub record ListingKept (image : List ℕ) (ts : Tables) : Type 0 where
-  pub twice : first_bad (twice_judged image ts) ≡ found.None
-  pub order : first_bad (order_judged image ts) ≡ found.None
-  pub listed : first_bad (listed_judged image ts) ≡ found.None
-  pub runs : first_bad (runs_judged image ts) ≡ found.None
+  pub twice : first_bad (twice_judged image ts) ≡ None
+  pub order : first_bad (order_judged image ts) ≡ None
+  pub listed : first_bad (listed_judged image ts) ≡ None
+  pub runs : first_bad (runs_judged image ts) ≡ None
 
 module _ (image : List ℕ) where
   pub form_kept : first_broken (form_rules image) ≡ Passed → FormKept image
@@ -135,7 +133,7 @@ module _ (image : List ℕ) (ts : Tables) (t : ts ≡ tables_of image) (passed :
   elements_inside small =
       (all_inside image ts (wanted_length image) t small (rw t) ((length_iff image).0 (form_kept image passed).wholes)).elements
 
-  pub ready : (slots : List ℕ) (twice : Found) → AllSmall ts → Listed image ts slots twice → twice ≡ found.None → Ready image ts slots
+  pub ready : (slots : List ℕ) (twice : Option ℕ) → AllSmall ts → Listed image ts slots twice → twice ≡ None → Ready image ts slots
   ready slots twice small listed none = record {
     small = small;
     nodes = rw t (things_few image good_header kind.Node);

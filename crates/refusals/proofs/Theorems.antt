@@ -7,6 +7,7 @@ use mathlib.Core.Logic.{◌↔◌, ◌⊎◌, inl, inr}
 use mathlib.Core.Path.{◌≡◌, refl, sym, ap, ◌∙◌}
 use lib.Dec.{eqb, ltb, leb}
 use borrow.Author.Tests.{ltb-true, leb-true, eqb-true}
+use Rattle.std.specs.Prelude.{Ok, Err}
 use Rattle.ground.specs.Each.{every}
 use Rattle.ground.proofs.Each.{by_bool, and_left, and_right, every_append}
 use Rattle.glyph.specs.Ranges.{WidthsRight}
@@ -20,9 +21,7 @@ use Rattle.controls.proofs.Theorems.{controls_iff}
 use Rattle.corners.proofs.Theorems.{corners_iff}
 use Rattle.listing.proofs.Theorems.{listed_iff}
 use Rattle.refusals.specs.declared.Answer.{Answer}
-use Rattle.refusals.specs.declared.Verdict.{Verdict}
-use Rattle.refusals.specs.declared.Verdict.TheVariants.{Passed, Refused}
-use Rattle.refusals.specs.FirstBroken.{rule, first_broken, BrokenFirst, refused, answer_of}
+use Rattle.refusals.specs.FirstBroken.{Verdict, Passed, Refused, rule, first_broken, BrokenFirst, refused, answer_of}
 use Rattle.refusals.specs.Rules.{control_character, content_rules, form_rules, touch_rules, listing_rules, rules, checked}
 use Rattle.refusals.specs.Accepted.{Keeps}
 use Rattle.refusals.proofs.FirstBroken.{and_then, broken_append, broken_first, first_broken_lem}
@@ -65,8 +64,10 @@ module _ (image : List ℕ) where
   by_verdict {P} f g = by (first_broken (rules image)) refl
     where
       by : (v : Verdict) → By v → P
-      by Passed e = f e
-      by (Refused code place) e =
+      by (Ok passed) e = f e
+      by (Err refusal) e =
+          let code = refusal.code in
+          let place = refusal.place in
           let c = broken_code image code place (broken_first (rules image) code place e) in
           g code place e (ltb-true 0 code (and_left (ltb 0 code) _ c)) (numbered code (and_right (ltb 0 code) _ c))
 
@@ -119,8 +120,8 @@ module _ (image : List ℕ) where
   both = broken_append (form_rules image) (listing_rules image (tables_of image))
 
   halves : (v w : Verdict) → first_broken (form_rules image) ≡ v → and_then v w ≡ Passed → (first_broken (form_rules image) ≡ Passed) × (w ≡ Passed)
-  halves Passed w e h = (e, h)
-  halves (Refused code place) w e h = let z : ◌≡◌ {A = ℕ} 0 1 = cc in absurd (omega arith)
+  halves (Ok passed) w e h = (e, h)
+  halves (Err refusal) w e h = let z : ◌≡◌ {A = ℕ} 0 1 = cc in absurd (omega arith)
 
   -- An image is accepted exactly when it keeps every rule.
 

@@ -8,11 +8,9 @@ ghost use Rattle.layout.specs.Small.{AllSmall};
 ghost use Rattle.layout.specs.Tables.{tables_of};
 ghost use Rattle.listing.specs.Computed.{Ready};
 ghost use Rattle.things.specs.Things.{run_count};
-ghost use Rattle.refusals.specs.declared.Verdict.TheVariants as verdict;
-ghost use Rattle.refusals.specs.FirstBroken.{first_broken, refused, answer_of};
-ghost use Rattle.refusals.specs.Rules.{ranges_judged, content_rules, form_rules, touch_rules, listing_rules, checked};
+ghost use Rattle.refusals.specs.FirstBroken.{Passed, refused_at, first_broken, counted};
+ghost use Rattle.refusals.specs.Rules.{ranges_judged, content_rules, form_rules, touch_rules, listing_rules, rules, checked};
 
-use ground::Found;
 use layout::{HEADER_RUNS, HEADER_SIZE, Tables, word};
 
 // "under 12 words"
@@ -48,18 +46,13 @@ pub const NOT_LISTED: u32 = 9;
 // "run capacity below the run count"
 pub const TOO_MANY_RUNS: u32 = 10;
 
-// What rules in order come to.
+// A rule that is broken.
 #[derive(Clone, Copy)]
-pub enum Verdict {
-    // none is broken
-    Passed,
-    // the first that is broken
-    Refused {
-        // its code
-        code: u32,
-        // the place of the first thing that breaks it
-        place: usize,
-    },
+pub struct Refusal {
+    // its code
+    pub code: u32,
+    // the place of the first thing that breaks it
+    pub place: usize,
 }
 
 // "Check and paint answer a code and a place; check adds the run count, 0 on refusal."
@@ -73,137 +66,111 @@ pub struct Answer {
     pub runs: usize,
 }
 
-fn refused(code: u32, place: usize) -> Answer
-    ensures { result ≡ refused code place }
+// What a rule comes to, by its code and by the first place that breaks it.
+fn unless(code: u32, broken: Option<usize>) -> Result<(), Refusal>
+    ensures { result ≡ refused_at code broken Passed }
 {
-    Answer {
-        code: code,
-        place: place,
-        runs: 0,
+    match broken {
+        Some(place) => Err(Refusal {
+            code: code,
+            place: place,
+        }),
+        None => Ok(()),
     }
 }
 
 // Code 5: the first word of the first width range that breaks the rule.
-fn bad_range(image: &[u32], ts: Tables) -> Found
+fn bad_range(image: &[u32], ts: Tables) -> Option<usize>
     requires { (ts ≡ tables_of image.now) × AllSmall ts }
     ensures { result ≡ first_bad (ranges_judged image.now ts) }
 {
-    let broken = glyph::first_broken(image::table_words(image, ts.ranges));
-    let Found::At(k) = broken else {
-        return Found::None;
-    };
-    Found::At(layout::record_at(ts.ranges, k))
+    let k = glyph::first_broken(image::table_words(image, ts.ranges))?;
+    Some(layout::record_at(ts.ranges, k))
 }
 
 // Codes 4, 5, 13 and 6.
-fn check_content(image: &[u32], ts: Tables) -> Verdict
+fn check_content(image: &[u32], ts: Tables) -> Result<(), Refusal>
     requires { (ts ≡ tables_of image.now) × AllSmall ts × AllInside image.now ts }
     ensures { result ≡ first_broken (content_rules image.now ts) }
 {
-    let field = fields::bad_record_field(image, ts);
-    if let Found::At(place) = field {
-        return Verdict::Refused {
-            code: BAD_FIELD,
-            place: place,
-        };
-    }
-    let range = bad_range(image, ts);
-    if let Found::At(place) = range {
-        return Verdict::Refused {
-            code: BAD_RANGE,
-            place: place,
-        };
-    }
-    let control = controls::first_control(image, ts.glyphs);
-    if let Found::At(place) = control {
-        return Verdict::Refused {
-            code: CONTROL_CHARACTER,
-            place: place,
-        };
-    }
-    let corner = corners::bad_corner(image, ts);
-    if let Found::At(place) = corner {
-        return Verdict::Refused {
-            code: CORNER_BELOW_ZERO,
-            place: place,
-        };
-    }
-    Verdict::Passed
+    unless(BAD_FIELD, fields::bad_record_field(image, ts))?;
+    unless(BAD_RANGE, bad_range(image, ts))?;
+    unless(CONTROL_CHARACTER, controls::first_control(image, ts.glyphs))?;
+    unless(CORNER_BELOW_ZERO, corners::bad_corner(image, ts))
 }
 
 // Codes 1 to 6 and 13: what an image is made of.
-pub fn check_form(image: &[u32]) -> Verdict
+pub fn check_form(image: &[u32]) -> Result<(), Refusal>
     ensures { result ≡ first_broken (form_rules image.now) }
 {
     if image.len() < HEADER_SIZE {
-        return Verdict::Refused {
-            code: TOO_SHORT,
-            place: 0,
-        };
+        return unless(TOO_SHORT, Some(0));
     }
-    let header = header::bad_header(image);
-    if let Found::At(place) = header {
-        return Verdict::Refused {
-            code: OVER_LIMIT,
-            place: place,
-        };
-    }
+    unless(OVER_LIMIT, header::bad_header(image))?;
     let ts = layout::tables_of(image);
     let wanted = layout::table_end(ts.ranges);
     if image.len() != wanted {
-        return Verdict::Refused {
-            code: WRONG_LENGTH,
-            place: wanted,
-        };
+        return unless(WRONG_LENGTH, Some(wanted));
     }
     check_content(image, ts)
 }
 
-// Codes 9 and 10, each thing's listing being in its slot.
-fn check_touched(image: &[u32], ts: Tables, slots: &[u32]) -> Answer
+// Codes 9 and 10, each thing's listing being in its slot; where neither is broken, the run count.
+fn check_touched(image: &[u32], ts: Tables, slots: &[u32]) -> Result<usize, Refusal>
     requires { Ready image.now ts slots.now }
-    ensures { result ≡ answer_of (first_broken (touch_rules image.now ts)) (run_count image.now ts) }
+    ensures { result ≡ counted (first_broken (touch_rules image.now ts)) (run_count image.now ts) }
 {
-    let walk = listing::walk_things(image, ts, slots);
-    let unlisted = walk.found;
-    if let Found::At(place) = unlisted {
-        return refused(NOT_LISTED, place);
-    }
-    let runs = walk.runs;
+    let runs = match listing::walk_things(image, ts, slots) {
+        Ok(runs) => runs,
+        Err(place) => {
+            return Err(Refusal {
+                code: NOT_LISTED,
+                place: place,
+            });
+        }
+    };
     if ground::number(word(image, HEADER_RUNS)) < runs {
-        return refused(TOO_MANY_RUNS, HEADER_RUNS);
+        return Err(Refusal {
+            code: TOO_MANY_RUNS,
+            place: HEADER_RUNS,
+        });
     }
-    Answer {
-        code: 0,
-        place: 0,
-        runs: runs,
-    }
+    Ok(runs)
 }
 
-// Codes 7 to 10: the list of elements, and what it lists.
-pub fn check_listing(image: &[u32], ts: Tables) -> Answer
-    requires { (ts ≡ tables_of image.now) × AllSmall ts × (first_broken (form_rules image.now) ≡ verdict.Passed) }
-    ensures { result ≡ answer_of (first_broken (listing_rules image.now ts)) (run_count image.now ts) }
+// Codes 7 to 10: the list of elements, and what it lists; where none is broken, the run count.
+pub fn check_listing(image: &[u32], ts: Tables) -> Result<usize, Refusal>
+    requires { (ts ≡ tables_of image.now) × AllSmall ts × (first_broken (form_rules image.now) ≡ Passed) }
+    ensures { result ≡ counted (first_broken (listing_rules image.now ts)) (run_count image.now ts) }
 {
     let mut slots = [0u32; elements::SLOT_COUNT];
-    let twice = elements::list_elements(image, ts, &mut slots);
-    if let Found::At(place) = twice {
-        return refused(LISTED_TWICE, place);
-    }
-    let order = elements::bad_order(image, ts);
-    if let Found::At(place) = order {
-        return refused(OUT_OF_ORDER, place);
-    }
+    unless(LISTED_TWICE, elements::list_elements(image, ts, &mut slots))?;
+    unless(OUT_OF_ORDER, elements::bad_order(image, ts))?;
     check_touched(image, ts, &slots)
+}
+
+// The run count of every slice of words that breaks no rule, or the first rule that it breaks.
+pub fn accept(image: &[u32]) -> Result<usize, Refusal>
+    ensures { result ≡ counted (first_broken (rules image.now)) (run_count image.now (tables_of image.now)) }
+{
+    check_form(image)?;
+    check_listing(image, layout::tables_of(image))
 }
 
 // Code, place and run count of every slice of words.
 pub fn check(image: &[u32]) -> Answer
     ensures { result ≡ checked image.now }
 {
-    let form = check_form(image);
-    if let Verdict::Refused { code, place } = form {
-        return refused(code, place);
+    match accept(image) {
+        Ok(runs) => Answer {
+            code: 0,
+            place: 0,
+            runs: runs,
+        },
+        Err(refusal) => Answer {
+            code: refusal.code,
+            place: refusal.place,
+            runs: 0,
+        },
     }
-    check_listing(image, layout::tables_of(image))
 }

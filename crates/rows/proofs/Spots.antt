@@ -1,4 +1,5 @@
 -- The rows that spots touch: of two lists one after the other, of one spot, and of ink down a column and along a row.
+use Rattle.std.specs.Prelude.{None}
 use native.Mathlib.Omega.{arith}
 use Prim.Native.Nat.{ℕ, zero, suc, ◌+◌, ◌-◌, ◌≤◌, ◌<◌, min, max}
 use mathlib.Core.Bool.{Bool, true, false, ◌&&◌, ◌||◌, and-true, and-false, or-false}
@@ -9,7 +10,6 @@ use borrow.Author.Tests.{le-leb, lt-leb, lt-ltb, le-ltb, eq-eqb, ne_eqb}
 use Rattle.ground.specs.Each.{numbers, between, each, some}
 use Rattle.ground.proofs.Order.{by_order}
 use Rattle.ground.proofs.Each.{some_append, some_each}
-use Rattle.rows.specs.declared.Rows.TheVariants.{None}
 use Rattle.rows.specs.declared.Window.{Window}
 use Rattle.rows.specs.Spots.{Ink, Spot, at, inks, spot_touches, touches}
 use Rattle.rows.specs.Window.{join_rows, touched_rows}

@@ -1,36 +1,38 @@
 -- Rows of a window: that `touchedRows` are the first and the last on which the test holds, that no others are, and what two tests, a stretch of rows and
 -- the code's clipping come to.
+use Rattle.std.specs.Prelude.{Option, None, Some}
 use native.Mathlib.Omega.{arith}
 use Prim.Native.Nat.{ℕ, zero, suc, ◌+◌, ◌-◌, ◌≤◌, ◌<◌, min, max}
 use mathlib.Core.Bool.{Bool, true, false, ◌&&◌, ◌||◌, and-false}
-use mathlib.Core.Path.{◌≡◌, refl, sym, ◌∙◌}
+use mathlib.Core.Path.{◌≡◌, refl, sym, ap, ◌∙◌}
 use lib.Dec.{leb, ltb, eqb}
 use borrow.Author.Tests.{le-leb, lt-leb, lt-ltb, le-ltb, leb-true, eq-eqb, ne_eqb}
 use Rattle.ground.proofs.Order.{by_order}
 use Rattle.ground.proofs.Each.{by_bool, by_or, and_left, and_right, and_both, or_neither}
 use Rattle.rows.specs.declared.Rows.{Rows}
-use Rattle.rows.specs.declared.Rows.TheVariants.{None, From}
 use Rattle.rows.specs.declared.Window.{Window}
-use Rattle.rows.specs.Window.{in_window, join_rows, rows_from, touched_rows, FirstAndLast}
+use Rattle.rows.specs.Window.{in_window, stretch, join_rows, rows_from, touched_rows, FirstAndLast}
 use Rattle.rows.specs.Computed.{rows_up_to, window_rows}
 
 -- no test both holds and does not
 pub clash : {P : Type 0} {b : Bool} → b ≡ true → b ≡ false → P
 clash p q = let z : ◌≡◌ {A = ℕ} 0 1 = cc in absurd (omega arith)
 
+-- Rows with the same first and last are the same.
+pub stretch_same : (r s : Rows) → r.first ≡ s.first → r.last ≡ s.last → Some r ≡ Some s
+stretch_same r s e f = ap (λ (a : ℕ). stretch a r.last) e ∙ ap (stretch s.first) f
+
 -- Two answers for one test are one.
-pub rows_unique : (top n : ℕ) (test : ℕ → Bool) (r s : Rows) → FirstAndLast top n test r → FirstAndLast top n test s → r ≡ s
+pub rows_unique : (top n : ℕ) (test : ℕ → Bool) (r s : Option Rows) → FirstAndLast top n test r → FirstAndLast top n test s → r ≡ s
 rows_unique top n test None None p q = refl
-rows_unique top n test None (From a b) p q = clash q.3 (p a q.0 (omega (arith, q.1, q.2)))
-rows_unique top n test (From a b) None p q = clash p.3 (q a p.0 (omega (arith, p.1, p.2)))
-rows_unique top n test (From a b) (From c d) p q =
-    let u = p.5 c q.0 (omega (arith, q.1, q.2)) q.3 in
-    let v = p.5 d (omega (arith, q.0, q.1)) q.2 q.4 in
-    let x = q.5 a p.0 (omega (arith, p.1, p.2)) p.3 in
-    let y = q.5 b (omega (arith, p.0, p.1)) p.2 p.4 in
-    let e : a ≡ c = omega (arith, u.0, x.0) in
-    let f : b ≡ d = omega (arith, v.1, y.1) in
-    rw (e, f)
+rows_unique top n test None (Some s) p q = clash q.3 (p s.first q.0 (omega (arith, q.1, q.2)))
+rows_unique top n test (Some r) None p q = clash p.3 (q r.first p.0 (omega (arith, p.1, p.2)))
+rows_unique top n test (Some r) (Some s) p q =
+    let u = p.5 s.first q.0 (omega (arith, q.1, q.2)) q.3 in
+    let v = p.5 s.last (omega (arith, q.0, q.1)) q.2 q.4 in
+    let x = q.5 r.first p.0 (omega (arith, p.1, p.2)) p.3 in
+    let y = q.5 r.last (omega (arith, p.0, p.1)) p.2 p.4 in
+    stretch_same r s (omega (arith, u.0, x.0)) (omega (arith, v.1, y.1))
 
 -- Two tests, of which one has to hold, come to both's rows together.
 module _ (top n : ℕ) (one other : ℕ → Bool) where
@@ -43,25 +45,25 @@ module _ (top n : ℕ) (one other : ℕ → Bool) where
   or_other : (y : ℕ) → other y ≡ true → either y ≡ true
   or_other y p = by_bool (one y) (λ q. rw q) (λ q. rw (q, p))
 
-  join_first_last : (r s : Rows) → FirstAndLast top n one r → FirstAndLast top n other s → FirstAndLast top n either (join_rows r s)
+  join_first_last : (r s : Option Rows) → FirstAndLast top n one r → FirstAndLast top n other s → FirstAndLast top n either (join_rows r s)
   join_first_last None None p q = λ y i j. or_neither (p y i j) (q y i j)
-  join_first_last None (From c d) p q = (
+  join_first_last None (Some s) p q = (
     q.0,
     q.1,
     q.2,
-    or_other c q.3,
-    or_other d q.4,
+    or_other s.first q.3,
+    or_other s.last q.4,
     λ y i j t. by_or (one y) (other y) t (λ u. clash u (p y i j)) (λ u. q.5 y i j u),
   )
-  join_first_last (From a b) None p q = (
+  join_first_last (Some r) None p q = (
     p.0,
     p.1,
     p.2,
-    or_one a p.3,
-    or_one b p.4,
+    or_one r.first p.3,
+    or_one r.last p.4,
     λ y i j t. by_or (one y) (other y) t (λ u. p.5 y i j u) (λ u. clash u (q y i j)),
   )
-  join_first_last (From a b) (From c d) p q = (
+  join_first_last (Some r) (Some s) p q = (
     omega (arith, p.0, q.0),
     omega (arith, p.1, q.1),
     omega (arith, p.2, q.2),
@@ -72,23 +74,23 @@ module _ (top n : ℕ) (one other : ℕ → Bool) where
         (λ u. let k = q.5 y i j u in (omega (arith, k.0), omega (arith, k.1))),
   )
     where
-      least : either (min a c) ≡ true
+      least : either (min r.first s.first) ≡ true
       least =
-          by_order c a
-          (λ o. let e : min a c ≡ c = omega arith in rw e (or_other c q.3))
-          (λ o. let e : min a c ≡ a = omega arith in rw e (or_one a p.3))
+          by_order s.first r.first
+          (λ o. let e : min r.first s.first ≡ s.first = omega arith in rw e (or_other s.first q.3))
+          (λ o. let e : min r.first s.first ≡ r.first = omega arith in rw e (or_one r.first p.3))
 
-      greatest : either (max b d) ≡ true
+      greatest : either (max r.last s.last) ≡ true
       greatest =
-          by_order b d
-          (λ o. let e : max b d ≡ d = omega arith in rw e (or_other d q.4))
-          (λ o. let e : max b d ≡ b = omega arith in rw e (or_one b p.4))
+          by_order r.last s.last
+          (λ o. let e : max r.last s.last ≡ s.last = omega arith in rw e (or_other s.last q.4))
+          (λ o. let e : max r.last s.last ≡ r.last = omega arith in rw e (or_one r.last p.4))
 
 -- The definition is the first and the last.
 module _ (test : ℕ → Bool) where
   -- one row more, before the others
   module _ (a n : ℕ) where
-    on : (r : Rows) → test a ≡ true → FirstAndLast (suc a) n test r → FirstAndLast a (suc n) test (join_rows (From a a) r)
+    on : (r : Option Rows) → test a ≡ true → FirstAndLast (suc a) n test r → FirstAndLast a (suc n) test (join_rows (stretch a a) r)
     on None t p = (
       omega arith,
       omega arith,
@@ -99,9 +101,9 @@ module _ (test : ℕ → Bool) where
           (λ o. clash u (p y (omega arith) (omega arith)))
           (λ o. (omega arith, omega arith)),
     )
-    on (From c d) t p =
-        let e : min a c ≡ a = omega (arith, p.0) in
-        let f : max a d ≡ d = omega (arith, p.0, p.1) in
+    on (Some s) t p =
+        let e : min a s.first ≡ a = omega (arith, p.0) in
+        let f : max a s.last ≡ s.last = omega (arith, p.0, p.1) in
         rw (e, f)
         ((
           omega arith,
@@ -114,12 +116,12 @@ module _ (test : ℕ → Bool) where
               (λ o. (omega arith, omega (arith, p.0, p.1))),
         ))
 
-    off : (r : Rows) → test a ≡ false → FirstAndLast (suc a) n test r → FirstAndLast a (suc n) test r
+    off : (r : Option Rows) → test a ≡ false → FirstAndLast (suc a) n test r → FirstAndLast a (suc n) test r
     off None t p =
         λ y i j. by_order a y
         (λ o. p y (omega arith) (omega arith))
         (λ o. let e : y ≡ a = omega arith in rw e t)
-    off (From c d) t p = (
+    off (Some s) t p = (
       omega (arith, p.0),
       p.1,
       omega (arith, p.2),
@@ -143,7 +145,7 @@ module _ (test : ℕ → Bool) where
   touched_first_last w = from_first_last w.first w.rows
 
   -- and whatever is the first and the last is the definition
-  pub first_last_touched : (w : Window) (r : Rows) → FirstAndLast w.first w.rows test r → r ≡ touched_rows w test
+  pub first_last_touched : (w : Window) (r : Option Rows) → FirstAndLast w.first w.rows test r → r ≡ touched_rows w test
   first_last_touched w r p = rows_unique w.first w.rows test r (touched_rows w test) p (touched_first_last w)
 
 -- Two tests of which one holds: their rows together.
@@ -162,14 +164,14 @@ pub touched_same :
     touched_rows w one ≡ touched_rows w other
 touched_same w one other same = first_last_touched other w (touched_rows w one) (carry (touched_rows w one) (touched_first_last one w))
   where
-    carry : (r : Rows) → FirstAndLast w.first w.rows one r → FirstAndLast w.first w.rows other r
+    carry : (r : Option Rows) → FirstAndLast w.first w.rows one r → FirstAndLast w.first w.rows other r
     carry None p = λ y i j. sym (same y i j) ∙ p y i j
-    carry (From a b) p = (
+    carry (Some r) p = (
       p.0,
       p.1,
       p.2,
-      sym (same a p.0 (omega (arith, p.1, p.2))) ∙ p.3,
-      sym (same b (omega (arith, p.0, p.1)) p.2) ∙ p.4,
+      sym (same r.first p.0 (omega (arith, p.1, p.2))) ∙ p.3,
+      sym (same r.last (omega (arith, p.0, p.1)) p.2) ∙ p.4,
       λ y i j u. p.5 y i j (same y i j ∙ u),
     )
 
@@ -219,7 +221,7 @@ pub clipped :
     low ≡ max a w.first →
     high + 1 ≡ min (b + 1) (w.first + w.rows) →
     low ≤ high →
-    From low high ≡ window_rows w a b
+    stretch low high ≡ window_rows w a b
 unfolding window_rows
 clipped w a b low high p q h =
     let o : low < high + 1 = omega arith in

@@ -16,79 +16,70 @@ pub struct Window {
     pub rows: usize,
 }
 
-// Rows of a window.
+// Rows of a window, from a first to a last. Where there may be none they are an `Option`.
 #[derive(Clone, Copy)]
-pub enum Rows {
-    // no row
-    None,
-    // from a first row to a last
-    From {
-        // the first
-        first: usize,
-        // the last, not below the first
-        last: usize,
-    },
+pub struct Rows {
+    // the first
+    pub first: usize,
+    // the last, not below the first
+    pub last: usize,
 }
 
 impl Window {
     // The rows from a to b that the window has. No sum is made that the window or b does not bound, so that every number will do.
-    pub fn clip(self, a: usize, b: usize) -> Rows
+    pub fn clip(self, a: usize, b: usize) -> Option<Rows>
         ensures { result ≡ window_rows self a b }
     {
         let top = self.first;
         let rows = self.rows;
         let from = ground::max(a, top);
         if b < from {
-            return Rows::None;
+            return None;
         }
         if rows <= from - top {
-            return Rows::None;
+            return None;
         }
         if b - top < rows {
-            return Rows::From {
+            return Some(Rows {
                 first: from,
                 last: b,
-            };
+            });
         }
-        Rows::From {
+        Some(Rows {
             first: from,
             last: top + (rows - 1),
-        }
+        })
     }
 
     // Whether a row is the window's.
     pub fn has(self, y: usize) -> bool
         ensures { result ≡ in_window self y }
     {
-        let top = self.first;
-        if top <= y { y - top < self.rows } else { false }
+        self.first <= y && y - self.first < self.rows
     }
 }
 
 impl Rows {
-    // From the least row of both to the greatest.
-    pub fn join(self, other: Rows) -> Rows
-        ensures { result ≡ join_rows self other }
-    {
-        let Rows::From { first, last } = self else {
-            return other;
-        };
-        match other {
-            Rows::None => self,
-            Rows::From { first: f, last: l } => Rows::From {
-                first: ground::min(first, f),
-                last: ground::max(last, l),
-            },
-        }
-    }
-
-    // Whether all rows lie from low to high.
+    // Whether all of them lie from low to high.
     pub fn within(self, low: usize, high: usize) -> bool
-        ensures { result ≡ rows_within low high self }
+        ensures { result ≡ rows_within low high (Some self) }
     {
-        let Rows::From { first, last } = self else {
-            return true;
-        };
-        if low <= first { last <= high } else { false }
+        low <= self.first && self.last <= high
     }
+}
+
+// From the least row of both to the greatest.
+pub fn join(one: Option<Rows>, other: Option<Rows>) -> Option<Rows>
+    ensures { result ≡ join_rows one other }
+{
+    let Some(a) = one else {
+        return other;
+    };
+    let Some(b) = other else {
+        return one;
+    };
+    Some(Rows {
+        first: ground::min(a.first, b.first),
+        last: ground::max(a.last, b.last),
+    })
 }

@@ -10,8 +10,7 @@ use lib.Seq.{drop-cons, drop-drop, get_or-drop}
 use borrow.Author.Tests.{ne_eqb, eq-eqb}
 use Rattle.ground.specs.Each.{numbers, each}
 use Rattle.cell.specs.OneCell.{read}
-use Rattle.shapes.specs.declared.Shape.{Shape}
-use Rattle.shapes.specs.declared.Shape.TheVariants.{Nothing, Character}
+use Rattle.std.specs.Prelude.{Option, None, Some}
 use Rattle.shapes.specs.Shapes.{shape_of}
 use Rattle.utf8.specs.Utf8.{utf8, written_at}
 use Rattle.utf8.proofs.Written.{Put, put_nothing, put_both, put_as, fits_first, fits_then, LeftOf, all_left, left_fits, piece_less, last_put}
@@ -22,28 +21,21 @@ use Rattle.rowtext.specs.Coloured.{change_to, shape_coloured, colour_after, colo
 -- a change of colour
 
 module _ (before colour : ℕ) where
-  no_change : before ≡ colour → change_to before colour ≡ []
+  pub no_change : before ≡ colour → change_to before colour ≡ []
   unfolding change_to
   no_change e = rw (eq-eqb _ _ e)
 
-  a_change : (before ≡ colour → ⊥) → change_to before colour ≡ sequence colour
+  pub a_change : (before ≡ colour → ⊥) → change_to before colour ≡ sequence colour
   unfolding change_to
   a_change n = rw (ne_eqb _ _ n)
-
-  -- written where the colours differ, or not at all
-  pub changed : (at end : ℕ) (start out : List ℕ) → (before ≡ colour → ⊥) → Put at (sequence colour) start end out → Put at (change_to before colour) start end out
-  changed at end start out n p = rw (a_change n) p
-
-  pub unchanged : (at end : ℕ) (start out : List ℕ) → before ≡ colour → end ≡ at → out ≡ start → Put at (change_to before colour) start end out
-  unchanged at end start out e p q = rw (p, q) (put_nothing at start _ (no_change e))
 
 -- a change of colour and what is written after it
 module _ (at before colour : ℕ) (text whole start : List ℕ) (e : whole ≡ change_to before colour ++ text) (fits : at + length whole ≤ length start) where
   both_fit : at + length (change_to before colour ++ text) ≤ length start
   both_fit = rw e at fits
 
-  pub change_fits : (before ≡ colour → ⊥) → at + length (sequence colour) ≤ length start
-  change_fits n = rw (a_change before colour n) at (fits_first at _ (change_to before colour) text both_fit)
+  pub change_fits : at + length (change_to before colour) ≤ length start
+  change_fits = fits_first at _ (change_to before colour) text both_fit
 
   pub text_fits : (begin : ℕ) → begin ≡ at + length (change_to before colour) → begin + length text ≤ length start
   text_fits begin p = fits_then at _ (change_to before colour) text both_fit begin p
@@ -55,7 +47,7 @@ module _ (at before colour : ℕ) (text whole start : List ℕ) (e : whole ≡ c
 
 -- what is written of a character, and at the end of a row, is a change of colour and a text after it
 
-pub of_character : (before colour ch : ℕ) → shape_coloured before colour (Character ch) ≡ change_to before colour ++ utf8 ch
+pub of_character : (before colour ch : ℕ) → shape_coloured before colour (Some ch) ≡ change_to before colour ++ utf8 ch
 unfolding shape_coloured
 of_character before colour ch = refl
 
@@ -64,20 +56,20 @@ unfolding coloured_from
 of_end before = refl
 
 -- a cell, by its shape
-module _ (w before colour : ℕ) (s : Shape) (p : s ≡ shape_of (read w)) where
-  pub nothing_shown : s ≡ Nothing → (shape_coloured before colour (shape_of (read w)) ≡ []) × (colour_after before colour (shape_of (read w)) ≡ before)
+module _ (w before colour : ℕ) (s : Option ℕ) (p : s ≡ shape_of (read w)) where
+  pub nothing_shown : s ≡ None → (shape_coloured before colour (shape_of (read w)) ≡ []) × (colour_after before colour (shape_of (read w)) ≡ before)
   unfolding shape_coloured colour_after
   nothing_shown e = rw (sym p ∙ e) (refl, refl)
 
   pub character_shown :
-      (ch : ℕ) → s ≡ Character ch →
-      (shape_coloured before colour (shape_of (read w)) ≡ shape_coloured before colour (Character ch)) × (colour_after before colour (shape_of (read w)) ≡ colour)
+      (ch : ℕ) → s ≡ Some ch →
+      (shape_coloured before colour (shape_of (read w)) ≡ shape_coloured before colour (Some ch)) × (colour_after before colour (shape_of (read w)) ≡ colour)
   unfolding colour_after
   character_shown ch e = rw (sym p ∙ e) (refl, refl)
 
   pub character_fits :
-      (ch at room : ℕ) → s ≡ Character ch → at + length (shape_coloured before colour (shape_of (read w))) ≤ room →
-      at + length (shape_coloured before colour (Character ch)) ≤ room
+      (ch at room : ℕ) → s ≡ Some ch → at + length (shape_coloured before colour (shape_of (read w))) ≤ room →
+      at + length (shape_coloured before colour (Some ch)) ≤ room
   character_fits ch at room e fits = rw (character_shown ch e).0 at fits
 
 -- the cells from x on: the first, and those after it
@@ -125,19 +117,18 @@ module _ (at : ℕ) (row colours start : List ℕ) (fits : at + length (coloured
       last_put at (coloured_row row colours) start end next _ out after i (put_as end next _ _ out after (none_left now x row colours h) p)
 
 -- A turn of the loop over a band: the rows from r on are left.
-module _ (width rows : ℕ) (cells colours start : List ℕ) (fits : length (band_text width rows cells colours) ≤ length start) (r end first : ℕ) (out : List ℕ) (same : length out ≡ length start)
-    (f : first ≡ width * r) where
+module _ (width rows : ℕ) (cells colours start : List ℕ) (fits : length (band_text width rows cells colours) ≤ length start) (r end : ℕ) (out : List ℕ) (same : length out ≡ length start) where
   abbrev row_of : ℕ → List ℕ
   row_of k = coloured_row (row_at width cells k) (row_at width colours k)
 
   abbrev row : List ℕ
-  row = coloured_row (take width (drop first cells)) (take width (drop first colours))
+  row = coloured_row (take width (drop (width * r) cells)) (take width (drop (width * r) colours))
 
   rows_left : r < rows → each (numbers r (rows - r)) row_of ≡ row ++ each (numbers (r + 1) (rows - (r + 1))) row_of
   unfolding each numbers
   rows_left h =
       let one : rows - r ≡ suc (rows - (r + 1)) = omega arith in
-      rw (one, f, add-one r)
+      rw (one, add-one r)
 
   module _ (i : LeftOf 0 (band_text width rows cells colours) start end (each (numbers r (rows - r)) row_of) out) where
     left_here : end + length (each (numbers r (rows - r)) row_of) ≤ length out
@@ -166,12 +157,9 @@ pub no_row_yet :
 unfolding band_text
 no_row_yet width rows cells colours start = let all : rows - 0 ≡ rows = omega arith in rw all (all_left 0 (band_text width rows cells colours) start)
 
--- a row of the cells, and the start of the next
-pub row_inside : (width rows r room first : ℕ) → r < rows → width * rows ≤ room → first ≡ width * r → first + width ≤ room
-row_inside width rows r room first h fits e =
+-- a row of the cells is inside them
+pub row_inside : (width rows r room : ℕ) → r < rows → width * rows ≤ room → width * r + width ≤ room
+row_inside width rows r room h fits =
     let more : width * suc r ≤ width * rows = mul-le-mul_left width (omega arith) in
     let sum : width * suc r ≡ width * r + width = mul-suc width r in
     omega arith
-
-pub next_start : (width r first : ℕ) → first ≡ width * r → first + width ≡ width * (r + 1)
-next_start width r first e = let sum : width * suc r ≡ width * r + width = mul-suc width r in rw (add-one r) (omega arith)

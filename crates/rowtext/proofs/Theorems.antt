@@ -12,8 +12,7 @@ use Rattle.ground.specs.Each.{numbers, each, every}
 use Rattle.ground.proofs.Each.{by_bool, and_left, and_right}
 use Rattle.ground.proofs.Order.{by_order}
 use Rattle.cell.specs.OneCell.{read}
-use Rattle.shapes.specs.declared.Shape.{Shape}
-use Rattle.shapes.specs.declared.Shape.TheVariants.{Nothing, Character}
+use Rattle.std.specs.Prelude.{Option, None, Some}
 use Rattle.shapes.specs.Shapes.{shape_of}
 use Rattle.utf8.specs.Utf8.{utf8}
 use Rattle.utf8.proofs.Laws.{one_byte, two_bytes, three_bytes, four_bytes, by_size, utf8_length}
@@ -26,10 +25,10 @@ use Rattle.rowtext.specs.Coloured.{change_to, shape_coloured, colour_after, colo
 -- Room.
 
 -- a cell's text has four bytes at most
-cell_room : (s : Shape) → length (shape_text s) ≤ 4
+cell_room : (s : Option ℕ) → length (shape_text s) ≤ 4
 unfolding shape_text
-cell_room Nothing = omega arith
-cell_room (Character ch) = utf8_length ch
+cell_room None = omega arith
+cell_room (Some ch) = utf8_length ch
 
 cells_room : (row : List ℕ) → length (each row cell_text) ≤ 4 * length row
 unfolding each cell_text
@@ -49,10 +48,10 @@ reset_room : (now : ℕ) → length (change_to now 0) ≤ 4
 unfolding change_to
 reset_room now = by_bool (eqb now 0) (λ t. rw t (omega arith)) (λ f. rw (f, zero_resets) (omega arith))
 
-shape_room : (now colour : ℕ) (s : Shape) → length (shape_coloured now colour s) ≤ 23
+shape_room : (now colour : ℕ) (s : Option ℕ) → length (shape_coloured now colour s) ≤ 23
 unfolding shape_coloured
-shape_room now colour Nothing = omega arith
-shape_room now colour (Character ch) = simp length-append (omega (arith, change_room now colour, utf8_length ch))
+shape_room now colour None = omega arith
+shape_room now colour (Some ch) = simp length-append (omega (arith, change_room now colour, utf8_length ch))
 
 from_room : (now : ℕ) (row colours : List ℕ) → length (coloured_from now row colours) ≤ 23 * length row + 5
 unfolding coloured_from
@@ -85,10 +84,10 @@ band_room width rows cells colours =
 
 -- Without colours.
 
-uncoloured_cell : (s : Shape) → (shape_coloured 0 0 s ≡ shape_text s) × (colour_after 0 0 s ≡ 0)
+uncoloured_cell : (s : Option ℕ) → (shape_coloured 0 0 s ≡ shape_text s) × (colour_after 0 0 s ≡ 0)
 unfolding shape_coloured shape_text colour_after change_to
-uncoloured_cell Nothing = (refl, refl)
-uncoloured_cell (Character ch) = (refl, refl)
+uncoloured_cell None = (refl, refl)
+uncoloured_cell (Some ch) = (refl, refl)
 
 -- Where no colours are lent, a row's text is its plain text.
 pub uncoloured : (row : List ℕ) → coloured_row row [] ≡ row_text row
@@ -181,16 +180,16 @@ plain_bytes ch other =
     tail b = head (0x80 + b) (omega arith)
 
 shape_kept :
-    (now colour : ℕ) (s : Shape) (rest : List ℕ) → ((ch : ℕ) → s ≡ Character ch → ch ≡ 0x1B → ⊥) →
+    (now colour : ℕ) (s : Option ℕ) (rest : List ℕ) → ((ch : ℕ) → s ≡ Some ch → ch ≡ 0x1B → ⊥) →
     outside false (shape_coloured now colour s ++ rest) ≡ shape_text s ++ outside false rest
 unfolding shape_coloured shape_text
-shape_kept now colour Nothing rest none = refl
-shape_kept now colour (Character ch) rest none =
+shape_kept now colour None rest none = refl
+shape_kept now colour (Some ch) rest none =
     rw (append_assoc (change_to now colour) (utf8 ch) rest) (change_out now colour (utf8 ch ++ rest) ∙ stay (utf8 ch) rest (plain_bytes ch (none ch refl)))
 
 -- no cell of a row is written as an ESC
 abbrev pub NoEscape : List ℕ → Type 0
-NoEscape row = (x ch : ℕ) → shape_of (read (get_or row x 0)) ≡ Character ch → ch ≡ 0x1B → ⊥
+NoEscape row = (x ch : ℕ) → shape_of (read (get_or row x 0)) ≡ Some ch → ch ≡ 0x1B → ⊥
 
 from_kept :
     (row colours : List ℕ) (now : ℕ) (rest : List ℕ) → NoEscape row →
@@ -198,7 +197,7 @@ from_kept :
 unfolding each outside cell_text coloured_from
 from_kept [] colours now rest none = rw (append_assoc (change_to now 0) (feed ∷ []) rest) (change_out now 0 (feed ∷ rest))
 from_kept (w ∷ row) colours now rest none =
-    let s : Shape = shape_of (read w) in
+    let s : Option ℕ = shape_of (read w) in
     let colour : ℕ = get_or colours 0 0 in
     let more : List ℕ = coloured_from (colour_after now colour s) row (drop 1 colours) ++ rest in
     rw (append_assoc (shape_coloured now colour s) (coloured_from (colour_after now colour s) row (drop 1 colours)) rest)

@@ -1,9 +1,7 @@
 -- "The coloured form writes ECMA-48 sequences only where a written cell's colour changes, each row starting and ending at 0".
-use Rattle.std.specs.Prelude.{ℕ, ◌+◌, ◌*◌, Bool, true, false, cond, List, [], ◌∷◌, ◌++◌, eqb, get_or, take, drop}
+use Rattle.std.specs.Prelude.{ℕ, ◌+◌, ◌*◌, Bool, true, false, cond, List, [], ◌∷◌, ◌++◌, eqb, get_or, take, drop, Option, None, Some}
 use Rattle.ground.specs.Each.{numbers, each}
 use Rattle.cell.specs.OneCell.{read}
-use Rattle.shapes.specs.declared.Shape.{Shape}
-use Rattle.shapes.specs.declared.Shape.TheVariants.{Nothing, Character}
 use Rattle.shapes.specs.Shapes.{shape_of}
 use Rattle.utf8.specs.Utf8.{utf8}
 use Rattle.sequence.specs.Sequence.{sequence}
@@ -14,14 +12,14 @@ unfoldable pub change_to : ℕ → ℕ → List ℕ
 change_to now colour = cond (eqb now colour) [] (sequence colour)
 
 -- what is written of a cell with its colour; of a continuation nothing, whatever its colour
-unfoldable pub shape_coloured : ℕ → ℕ → Shape → List ℕ
-shape_coloured now colour Nothing = []
-shape_coloured now colour (Character ch) = change_to now colour ++ utf8 ch
+unfoldable pub shape_coloured : ℕ → ℕ → Option ℕ → List ℕ
+shape_coloured now colour None = []
+shape_coloured now colour (Some ch) = change_to now colour ++ utf8 ch
 
 -- the colour that is then in force
-unfoldable pub colour_after : ℕ → ℕ → Shape → ℕ
-colour_after now colour Nothing = now
-colour_after now colour (Character ch) = colour
+unfoldable pub colour_after : ℕ → ℕ → Option ℕ → ℕ
+colour_after now colour None = now
+colour_after now colour (Some ch) = colour
 
 -- cells and their colours from one in force on, to the end of their row: back to 0, and the line feed; a cell without a colour has colour 0
 unfoldable pub coloured_from : ℕ → List ℕ → List ℕ → List ℕ

@@ -1,9 +1,7 @@
 -- "A continuation writes nothing, empty writes a space, each row ends in one line feed."
-use Rattle.std.specs.Prelude.{ℕ, ◌+◌, ◌*◌, List, [], ◌∷◌, ◌++◌}
+use Rattle.std.specs.Prelude.{ℕ, ◌+◌, ◌*◌, List, [], ◌∷◌, ◌++◌, Option, None, Some}
 use Rattle.ground.specs.Each.{each}
 use Rattle.cell.specs.OneCell.{read}
-use Rattle.shapes.specs.declared.Shape.{Shape}
-use Rattle.shapes.specs.declared.Shape.TheVariants.{Nothing, Character}
 use Rattle.shapes.specs.Shapes.{shape_of}
 use Rattle.utf8.specs.Utf8.{utf8}
 
@@ -12,9 +10,9 @@ abbrev pub feed : ℕ
 feed = 0x0A
 
 -- the bytes of what a cell is written as
-unfoldable pub shape_text : Shape → List ℕ
-shape_text Nothing = []
-shape_text (Character ch) = utf8 ch
+unfoldable pub shape_text : Option ℕ → List ℕ
+shape_text None = []
+shape_text (Some ch) = utf8 ch
 
 unfoldable pub cell_text : ℕ → List ℕ
 cell_text w = shape_text (shape_of (read w))

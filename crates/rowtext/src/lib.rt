@@ -5,10 +5,9 @@ ghost use Rattle.std.specs.Prelude.{◌≡◌, [], ◌+◌, ◌*◌, ◌≤◌, 
 ghost use Rattle.cell.specs.OneCell.{read};
 ghost use Rattle.shapes.specs.Shapes.{stroke_table, shape_of};
 ghost use Rattle.utf8.specs.Utf8.{written_at};
-ghost use Rattle.rowtext.specs.Coloured.{shape_coloured, colour_after, coloured_from, coloured_row, band_text};
+ghost use Rattle.rowtext.specs.Coloured.{change_to, shape_coloured, colour_after, coloured_from, coloured_row, band_text};
 
 use layout::word;
-use shapes::Shape;
 
 // Where a text is written on, and the colour in force there.
 #[derive(Clone, Copy)]
@@ -19,20 +18,29 @@ struct Pen {
     colour: u32,
 }
 
-// A character in its colour: "sequences only where a written cell's colour changes". The colours are compared here, so that a cell without a change costs no call.
-fn put_character(ch: u32, colour: u32, pen: Pen, out: &mut [u8]) -> Pen
-    requires { (ch < 0x200000) × (pen.at + length (shape_coloured pen.colour colour (Shape.Character ch)) ≤ length out.old) }
-    ensures at_value { (result.at ≡ pen.at + length (shape_coloured pen.colour colour (Shape.Character ch))) × (result.colour ≡ colour) }
-    ensures out_after { out.new ≡ written_at pen.at (shape_coloured pen.colour colour (Shape.Character ch)) out.old }
+// The change to a colour, where another is in force: "sequences only where a written cell's colour changes"; answers the place after it. A call for each cell would cost.
+#[inline(always)]
+fn change_to(colour: u32, pen: Pen, out: &mut [u8]) -> usize
+    requires { pen.at + length (change_to pen.colour colour) ≤ length out.old }
+    ensures value { result ≡ pen.at + length (change_to pen.colour colour) }
+    ensures out_after { out.new ≡ written_at pen.at (change_to pen.colour colour) out.old }
 {
-    let mut begin = pen.at;
-    if pen.colour != colour {
-        begin = sequence::put_sequence(colour, out, begin);
+    if pen.colour == colour {
+        return pen.at;
     }
-    let end = utf8::put(ch, out, begin);
+    sequence::put_sequence(colour, out, pen.at)
+}
+
+// A character in its colour.
+fn put_character(ch: u32, colour: u32, pen: Pen, out: &mut [u8]) -> Pen
+    requires { (ch < 0x200000) × (pen.at + length (shape_coloured pen.colour colour (Some ch)) ≤ length out.old) }
+    ensures at_value { (result.at ≡ pen.at + length (shape_coloured pen.colour colour (Some ch))) × (result.colour ≡ colour) }
+    ensures out_after { out.new ≡ written_at pen.at (shape_coloured pen.colour colour (Some ch)) out.old }
+{
+    let begin = change_to(colour, pen, out);
     Pen {
-        at: end,
-        colour: colour,
+        at: utf8::put(ch, out, begin),
+        colour,
     }
 }
 
@@ -42,12 +50,8 @@ fn write_cell(cell: u32, colour: u32, pen: Pen, strokes: &[u16; 256], out: &mut 
     ensures at_value { (result.at ≡ pen.at + length (shape_coloured pen.colour colour (shape_of (read cell)))) × (result.colour ≡ colour_after pen.colour colour (shape_of (read cell))) }
     ensures out_after { out.new ≡ written_at pen.at (shape_coloured pen.colour colour (shape_of (read cell))) out.old }
 {
-    let shape = shapes::shape_of(cell, strokes);
-    let Shape::Character(ch) = shape else {
-        return Pen {
-            at: pen.at,
-            colour: pen.colour,
-        };
+    let Some(ch) = shapes::shape_of(cell, strokes) else {
+        return pen;
     };
     put_character(ch, colour, pen, out)
 }
@@ -58,12 +62,8 @@ fn end_row(pen: Pen, out: &mut [u8]) -> usize
     ensures value { result ≡ pen.at + length (coloured_from pen.colour [] []) }
     ensures out_after { out.new ≡ written_at pen.at (coloured_from pen.colour [] []) out.old }
 {
-    let mut end = pen.at;
-    if pen.colour != 0 {
-        end = sequence::put_sequence(0, out, end);
-    }
-    out[end] = b'\n';
-    end + 1
+    let end = change_to(0, pen, out);
+    utf8::put_bytes(b"\n", out, end)
 }
 
 // "each row starting and ending at 0"
@@ -72,11 +72,9 @@ fn write_row(row: &[u32], colours: &[u32], strokes: &[u16; 256], out: &mut [u8],
     ensures value { result ≡ at + length (coloured_row row.now colours.now) }
     ensures out_after { out.new ≡ written_at at (coloured_row row.now colours.now) out.old }
 {
-    let mut pen = Pen { at: at, colour: 0 };
-    let mut x: usize = 0;
-    while x < row.len() {
-        pen = write_cell(row[x], word(colours, x), pen, strokes, out);
-        x += 1;
+    let mut pen = Pen { at, colour: 0 };
+    for (x, cell) in row.iter().enumerate() {
+        pen = write_cell(*cell, word(colours, x), pen, strokes, out);
     }
     end_row(pen, out)
 }
@@ -115,12 +113,9 @@ pub fn write_band(
 {
     let strokes = shapes::strokes();
     let mut at: usize = 0;
-    let mut start: usize = 0;
-    let mut r: usize = 0;
-    while r < rows {
+    for r in 0..rows {
+        let start = width * r;
         at = write_part(cells, colours, start, width, &strokes, out, at);
-        start += width;
-        r += 1;
     }
     at
 }

@@ -19,11 +19,9 @@ fn raise(cover: &mut [u8], a: usize, e: usize, weight: u8)
     requires { e ≤ length cover.old }
     ensures { cover.new ≡ turns (raise_column weight) a (e - a) cover.old }
 {
-    let mut x = a;
-    while x < e {
+    for x in a..e {
         let old = cover[x];
         cover[x] = heavier(weight, old);
-        x += 1;
     }
 }
 
@@ -59,6 +57,7 @@ fn cover_row(
     let mut low = width;
     let mut high: usize = 0;
     let mut link = head;
+    // the runs of a row are reached link by link, which no range gives
     while link != 0 {
         let k = link - 1;
         let run = cover_run(scratch, k, width, cover);
@@ -68,17 +67,14 @@ fn cover_row(
         high = ground::max(high, end);
         link = crate::link_at(scratch, k);
     }
-    Columns {
-        low: low,
-        high: high,
-    }
+    Columns { low, high }
 }
 
 fn ink_column(row: &mut [u32], ranges: &[u32], weight: u8, x: usize)
     ensures { row.new ≡ ink_column ranges.now weight x row.old }
 {
     if weight != 0 {
-        let arms = Arms::horizontal(Weight::from_bits(weight as u32));
+        let arms = Arms::horizontal(Weight::from(weight as u32));
         packed::stroke(row, ranges, x, packed::stroke_word(arms));
     }
 }
@@ -88,10 +84,8 @@ fn ink_columns(row: &mut [u32], ranges: &[u32], cover: &[u8], low: usize, high: 
     requires { high ≤ length cover.now }
     ensures { row.new ≡ turns (λ x. ink_column ranges.now (get_or cover.now x 0) x) low (high - low) row.old }
 {
-    let mut x = low;
-    while x < high {
+    for x in low..high {
         ink_column(row, ranges, cover[x], x);
-        x += 1;
     }
 }
 

@@ -24,10 +24,8 @@ fn claim(numbers: &mut [u32], colours: &mut [u32], a: usize, e: usize, number: u
     requires { (e ≤ length numbers.old) × (e ≤ length colours.old) }
     ensures { owners numbers.new colours.new ≡ turns (claim_column number colour) a (e - a) (owners numbers.old colours.old) }
 {
-    let mut x = a;
-    while x < e {
+    for x in a..e {
         claim_column(numbers, colours, x, number, colour);
-        x += 1;
     }
 }
 
@@ -70,6 +68,7 @@ fn claim_row(
     let mut low = width;
     let mut high: usize = 0;
     let mut link = head;
+    // the runs of a row are reached link by link, which no range gives
     while link != 0 {
         let k = link - 1;
         let run = claim_run(scratch, k, width, numbers, colours);
@@ -79,10 +78,7 @@ fn claim_row(
         high = ground::max(high, end);
         link = crate::link_at(scratch, k);
     }
-    Columns {
-        low: low,
-        high: high,
-    }
+    Columns { low, high }
 }
 
 fn colour_column(row: &mut [u32], x: usize, stamp: u32, number: u32, colour: u32)
@@ -106,10 +102,8 @@ fn colour_columns(
     requires { (high ≤ length row.old) × (high ≤ length stamps.now) × (high ≤ length numbers.now) × (high ≤ length colours.now) }
     ensures { row.new ≡ turns (λ x. colour_column (owner_in (owners numbers.now colours.now) x) (get_or stamps.now x 0) x) low (high - low) row.old }
 {
-    let mut x = low;
-    while x < high {
+    for x in low..high {
         colour_column(row, x, stamps[x], numbers[x], colours[x]);
-        x += 1;
     }
 }
 

@@ -43,6 +43,7 @@ fn count_above(image: &[u32], ts: Tables, end: usize) -> usize
 {
     let mut low: usize = 0;
     let mut high = ts.elements.count;
+    // halving, which no range steps through
     while low < high {
         let middle = low + (high - low) / 2;
         if end <= ground::number(field_inside(image, ts.elements, middle, ELEMENT_FIRST_ROW)) {
@@ -60,9 +61,7 @@ pub fn mark_listed(image: &[u32], ts: Tables, top: usize, end: usize, marks: &mu
     ensures { marks.new ≡ fresh image.now ts top end marks.old }
 {
     let count = count_above(image, ts, end);
-    let mut k: usize = 0;
-    while k < count {
+    for k in 0..count {
         mark_element(image, ts, top, k, marks);
-        k += 1;
     }
 }

@@ -1,29 +1,12 @@
 -- Pieces of a sequence written one after the other, over plain variables.
 use native.Mathlib.Omega.{arith}
-use native.Mathlib.Numerals.{add-one}
-use Prim.Native.Nat.{ℕ, suc, ◌+◌, ◌/◌, ◌%◌, ◌≤◌, ◌<◌}
-use mathlib.Core.Path.{◌≡◌, refl, sym, ap}
+use Prim.Native.Nat.{ℕ, ◌+◌, ◌/◌, ◌%◌, ◌≤◌, ◌<◌}
+use mathlib.Core.Path.{◌≡◌}
 use mathlib.Core.List.{List, [], ◌∷◌, ◌++◌}
-use lib.ListN.{length, get_or, set, take}
-use lib.Seq.{take-suc, length-take-le}
+use lib.ListN.{length}
 use borrow.Author.Tests.{lt-ltb, le-ltb, ne_eqb}
-use Rattle.utf8.specs.Utf8.{written_at}
-use Rattle.utf8.proofs.Written.{Put, put_nothing, put_both, put_byte, put_stored, fits_first, fits_then}
+use Rattle.utf8.proofs.Written.{Put, put_both, fits_first, fits_then}
 use Rattle.sequence.specs.Sequence.{decimal, numeral, semicolon, ending, reset, basic, indexed, direct, red_green_blue, sequence}
-
--- a turn copies one byte
-
-pub no_byte_yet : (bytes start : List ℕ) (at : ℕ) → start ≡ written_at at (take 0 bytes) start
-no_byte_yet bytes start at = (put_nothing at start [] refl).1
-
-module _ (bytes start out : List ℕ) (at k : ℕ) (i : out ≡ written_at at (take k bytes) start) where
-  pub byte_more :
-      k < length bytes → at + length bytes ≤ length start → length out ≡ length start →
-      set out (at + k) (get_or bytes k 0) ≡ written_at at (take (k + 1) bytes) start
-  byte_more h fits same =
-      let long : at + k ≡ at + length (take k bytes) = ap (λ (n : ℕ). at + n) (sym (length-take-le k bytes (omega arith))) in
-      rw (add-one k, take-suc bytes k 0 h)
-      (put_both at (at + k) (at + k + 1) (take k bytes) (get_or bytes k 0 ∷ []) start out _ (omega arith) (long, i) (put_byte (at + k) (get_or bytes k 0) out (omega arith))).1
 
 -- a number's digits
 
@@ -39,31 +22,6 @@ pub three_digits : (n : ℕ) → 100 ≤ n → decimal n ≡ (48 + n / 100) ∷ 
 unfolding decimal
 three_digits n h = simp (le-ltb n 10 (omega arith), le-ltb _ _ h)
 
-module _ (out : List ℕ) (at n : ℕ) (fits : at + length (decimal n) ≤ length out) where
-  pub fits_one : n < 10 → at + 1 ≤ length out
-  fits_one h = rw (one_digit n h) at fits
-
-  pub fits_two : 10 ≤ n → n < 100 → at + 2 ≤ length out
-  fits_two h l = rw (two_digits n h l) at fits
-
-  pub fits_three : 100 ≤ n → at + 3 ≤ length out
-  fits_three h = rw (three_digits n h) at fits
-
-  pub one_put : (a : ℕ) → a ≡ 48 + n → n < 10 → Put at (decimal n) out (at + 1) (set out at a)
-  one_put a pa h = rw (one_digit n h, pa) (put_byte at (48 + n) out (fits_one h))
-
-  pub two_put : (a b : ℕ) → a ≡ 48 + n / 10 → b ≡ 48 + n % 10 → 10 ≤ n → n < 100 → Put at (decimal n) out (at + 2) (set (set out at a) (at + 1) b)
-  two_put a b pa pb h l =
-      rw (two_digits n h l, pa, pb) (refl, rw (add-one at) (put_stored at ((48 + n / 10) ∷ (48 + n % 10) ∷ []) out (fits_two h l)))
-
-  pub three_put :
-      (a b d : ℕ) → a ≡ 48 + n / 100 → b ≡ 48 + n / 10 % 10 → d ≡ 48 + n % 10 → 100 ≤ n →
-      Put at (decimal n) out (at + 3) (set (set (set out at a) (at + 1) b) (at + 2) d)
-  three_put a b d pa pb pd h =
-      let two : at + 2 ≡ suc (suc at) = omega arith in
-      rw (three_digits n h, pa, pb, pd)
-      (refl, rw (add-one at, two) (put_stored at ((48 + n / 100) ∷ (48 + n / 10 % 10) ∷ (48 + n % 10) ∷ []) out (fits_three h)))
-
 -- a number and the byte after it
 module _ (at n byte : ℕ) (start : List ℕ) (fits : at + length (numeral n byte) ≤ length start) where
   pub fits_decimal : at + length (decimal n) ≤ length start
@@ -75,10 +33,9 @@ module _ (at n byte : ℕ) (start : List ℕ) (fits : at + length (numeral n byt
   fits_byte end e = fits_then at _ (decimal n) (byte ∷ []) fits end e
 
   pub numeral_put :
-      (end : ℕ) (out : List ℕ) → Put at (decimal n) start end out → length out ≡ length start → Put at (numeral n byte) start (end + 1) (set out end byte)
+      (end k : ℕ) (out after : List ℕ) → Put at (decimal n) start end out → Put end (byte ∷ []) out k after → length out ≡ length start → Put at (numeral n byte) start k after
   unfolding numeral
-  numeral_put end out p same =
-      put_both at end (end + 1) (decimal n) (byte ∷ []) start out _ (omega arith) p (put_byte end byte out (omega (arith, fits_byte end p.0)))
+  numeral_put end k out after p q same = put_both at end k (decimal n) (byte ∷ []) start out after (omega (arith, fits_decimal)) p q
 
 -- red, green and blue
 module _ (at c : ℕ) (start : List ℕ) (fits : at + length (red_green_blue c) ≤ length start) where

@@ -5,6 +5,14 @@ ghost use Rattle.std.specs.Prelude.{◌≡◌, ◌+◌, ◌≤◌, ◌<◌, leng
 ghost use Rattle.utf8.specs.Utf8.{written_at};
 ghost use Rattle.sequence.specs.Sequence.{decimal, numeral, red_green_blue, sequence};
 
+use utf8::put_bytes;
+
+// The first colour that is one of a palette of 256: those below are ECMA-48's own.
+const FIRST_INDEXED: u32 = 8;
+
+// The first that is told by its red, green and blue.
+const FIRST_DIRECT: u32 = 0x100;
+
 // ESC `[0m`
 const RESET: [u8; 4] = *b"\x1b[0m";
 
@@ -16,20 +24,6 @@ const INDEXED: [u8; 7] = *b"\x1b[38;5;";
 
 // ESC `[38;2;`
 const DIRECT: [u8; 7] = *b"\x1b[38;2;";
-
-// Bytes from a place on; answers the place after them.
-fn put_bytes(bytes: &[u8], out: &mut [u8], at: usize) -> usize
-    requires { at + length bytes.now ≤ length out.old }
-    ensures value { result ≡ at + length bytes.now }
-    ensures out_after { out.new ≡ written_at at bytes.now out.old }
-{
-    let mut k: usize = 0;
-    while k < bytes.len() {
-        out[at + k] = bytes[k];
-        k += 1;
-    }
-    at + k
-}
 
 // A digit: `0` is 48.
 fn digit(n: u32) -> u8
@@ -46,18 +40,16 @@ fn put_decimal(n: u32, out: &mut [u8], at: usize) -> usize
     ensures out_after { out.new ≡ written_at at (decimal n) out.old }
 {
     if n < 10 {
-        out[at] = digit(n);
-        return at + 1;
+        return put_bytes(&[digit(n)], out, at);
     }
     if n < 100 {
-        out[at] = digit(n / 10);
-        out[at + 1] = digit(n % 10);
-        return at + 2;
+        return put_bytes(&[digit(n / 10), digit(n % 10)], out, at);
     }
-    out[at] = digit(n / 100);
-    out[at + 1] = digit(n / 10 % 10);
-    out[at + 2] = digit(n % 10);
-    at + 3
+    put_bytes(
+        &[digit(n / 100), digit(n / 10 % 10), digit(n % 10)],
+        out,
+        at,
+    )
 }
 
 // Digits and a byte after them.
@@ -67,8 +59,7 @@ fn put_numeral(n: u32, byte: u8, out: &mut [u8], at: usize) -> usize
     ensures out_after { out.new ≡ written_at at (numeral n byte) out.old }
 {
     let end = put_decimal(n, out, at);
-    out[end] = byte;
-    end + 1
+    put_bytes(&[byte], out, end)
 }
 
 fn put_red_green_blue(colour: u32, out: &mut [u8], at: usize) -> usize
@@ -90,11 +81,11 @@ pub fn put_sequence(colour: u32, out: &mut [u8], at: usize) -> usize
     if colour == 0 {
         return put_bytes(&RESET, out, at);
     }
-    if colour < 8 {
+    if colour < FIRST_INDEXED {
         let number = put_bytes(&BASIC, out, at);
         return put_numeral(colour, b'm', out, number);
     }
-    if colour < 0x100 {
+    if colour < FIRST_DIRECT {
         let number = put_bytes(&INDEXED, out, at);
         return put_numeral(colour, b'm', out, number);
     }

@@ -7,6 +7,7 @@ use mathlib.Core.List.{List, [], ◌∷◌}
 use lib.Dec.{eqb, leb}
 use lib.ListN.{get_or}
 use borrow.Author.Tests.{leb-true, eqb-false, ne_eqb}
+use Rattle.std.specs.Prelude.{Option, None, Some}
 use Rattle.ground.specs.Each.{numbers, each, some, every}
 use Rattle.ground.proofs.Each.{every_number, and_left, and_right, by_bool, cond_holds}
 use Rattle.cell.specs.declared.Arms.{Arms}
@@ -17,8 +18,6 @@ use Rattle.cell.specs.declared.Dir.TheVariants.{Up, Down, Left, Right}
 use Rattle.cell.specs.declared.Parts.{Parts}
 use Rattle.cell.specs.OneCell.{marker_of, dir_of, read_arms, read_text, read_marker, read}
 use Rattle.cell.proofs.Laws.{weight_small, weight_back}
-use Rattle.shapes.specs.declared.Shape.{Shape}
-use Rattle.shapes.specs.declared.Shape.TheVariants.{Nothing, Character}
 use Rattle.shapes.specs.Block.{block}
 use Rattle.shapes.specs.Shapes.{arms_number, arms_at, drawn_as, instead, stroke_shape, stroke_table}
 use Rattle.shapes.specs.Shapes.{marker_shape, shape_of, drawable, draws}
@@ -132,9 +131,9 @@ marker_bound Dummy d = omega arith
 
 -- a character has at most 21 bits
 
-abbrev Small : Shape → Type 0
-Small Nothing = Unit {0}
-Small (Character ch) = ch < 0x200000
+abbrev Small : Option ℕ → Type 0
+Small None = Unit {0}
+Small (Some ch) = ch < 0x200000
 
 abbrev SmallShape : Parts → Type 0
 SmallShape p = Small (shape_of p)
@@ -149,14 +148,14 @@ read_small w =
     (cond_holds SmallShape (eqb (w / 0x200000 % 2) 1) tt (omega arith))
     (cond_holds SmallShape (eqb (w / 0x40000000) 2) (omega (arith, stroke.1)) (omega (arith, marker.1))))
 
-pub shape_small : (w ch : ℕ) (s : Shape) → s ≡ shape_of (read w) → s ≡ Character ch → ch < 0x200000
+pub shape_small : (w ch : ℕ) (s : Option ℕ) → s ≡ shape_of (read w) → s ≡ Some ch → ch < 0x200000
 shape_small w ch s p q = rw (sym p ∙ q) at (read_small w)
 
 -- what a word is written as, by the parts that it reads as
-pub written_as : (w : ℕ) (p q : Parts) (s : Shape) → p ≡ read w → p ≡ q → s ≡ shape_of q → s ≡ shape_of (read w)
+pub written_as : (w : ℕ) (p q : Parts) (s : Option ℕ) → p ≡ read w → p ≡ q → s ≡ shape_of q → s ≡ shape_of (read w)
 written_as w p q s r e f = f ∙ ap shape_of (sym e ∙ r)
 
 -- a word with the tag of an empty cell is written as a space
-pub empty_written : (w : ℕ) → w < 0x40000000 → Character 0x20 ≡ shape_of (read w)
+pub empty_written : (w : ℕ) → w < 0x40000000 → Some 0x20 ≡ shape_of (read w)
 unfolding read shape_of
 empty_written w below = let tag : w / 0x40000000 ≡ 0 = omega arith in rw tag

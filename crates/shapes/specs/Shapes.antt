@@ -1,10 +1,11 @@
 -- "Strokes become Box Drawing characters .. by a table over the four arms, one with just those arms and weights where
 -- the block has it; docs/ lists the ones chosen where the block has none, and for self-loop and dummy; arrows become
 -- U+2191, 2193, 2190 and 2192."
-use Rattle.std.specs.Prelude.{ℕ, ◌+◌, ◌*◌, ◌/◌, ◌%◌, ◌≤◌, Bool, true, false, cond, ◌&&◌, List, [], ◌∷◌, ◌≡◌, eqb}
+use Rattle.std.specs.Prelude.{ℕ, ◌+◌, ◌*◌, ◌/◌, ◌%◌, ◌≤◌, Bool, true, false, cond, ◌&&◌, List, [], ◌∷◌, ◌≡◌, eqb, Option, None, Some}
 use Rattle.ground.specs.Each.{numbers, each, some}
 use Rattle.cell.specs.declared.Weight.{Weight}
-use Rattle.cell.specs.declared.Weight.TheVariants.{None, Light, Double}
+use Rattle.cell.specs.declared.Weight.TheVariants as weight
+use Rattle.cell.specs.declared.Weight.TheVariants.{Light, Double}
 use Rattle.cell.specs.declared.MarkerKind.{MarkerKind}
 use Rattle.cell.specs.declared.MarkerKind.TheVariants.{Arrow, SelfLoop, Dummy}
 use Rattle.cell.specs.declared.Dir.{Dir}
@@ -13,8 +14,6 @@ use Rattle.cell.specs.declared.Arms.{Arms}
 use Rattle.cell.specs.declared.Parts.{Parts}
 use Rattle.cell.specs.declared.Parts.TheVariants.{Empty, Text, Continuation, Stroke, Marker}
 use Rattle.cell.specs.OneCell.{weight_number, weight_of, heavier, is_double}
-use Rattle.shapes.specs.declared.Shape.{Shape}
-use Rattle.shapes.specs.declared.Shape.TheVariants.{Nothing, Character}
 use Rattle.shapes.specs.Block.{Drawn, block}
 
 -- the place of four arms in the table, and the arms at a place
@@ -59,7 +58,7 @@ line_weight a one other = cond (alone a) Light (undashed (heavier one other))
 
 -- an arm in the weight of its line; where there is none, none
 abbrev pub shown_arm : Weight → Weight → Weight
-shown_arm line arm = cond (eqb (weight_number arm) 0) None line
+shown_arm line arm = cond (eqb (weight_number arm) 0) weight.None line
 
 unfoldable pub instead : Arms → Arms
 instead a = record {
@@ -89,13 +88,13 @@ marker_shape Arrow Right = 0x2192
 marker_shape SelfLoop dir = 0x21BA
 marker_shape Dummy dir = 0x25CD
 
--- What a cell is written as: "A continuation writes nothing, empty writes a space".
-unfoldable pub shape_of : Parts → Shape
-shape_of Empty = Character 0x20
-shape_of (Text ch) = Character ch
-shape_of Continuation = Nothing
-shape_of (Stroke arms) = Character (stroke_shape arms)
-shape_of (Marker kind dir dashed) = Character (marker_shape kind dir)
+-- The character that a cell is written as: "A continuation writes nothing, empty writes a space".
+unfoldable pub shape_of : Parts → Option ℕ
+shape_of Empty = Some 0x20
+shape_of (Text ch) = Some ch
+shape_of Continuation = None
+shape_of (Stroke arms) = Some (stroke_shape arms)
+shape_of (Marker kind dir dashed) = Some (marker_shape kind dir)
 
 -- What the table amounts to.
 

@@ -7,15 +7,6 @@ ghost use Rattle.shapes.specs.Shapes.{arms_number, stroke_shape, stroke_table, m
 
 use cell::{Arms, Dir, MarkerKind, Parts};
 
-// What a cell is written as.
-#[derive(Clone, Copy)]
-pub enum Shape {
-    // no character: the second column of a wide glyph
-    Nothing,
-    // a character, by its code point
-    Character(u32),
-}
-
 // The table, to be made once and lent: a constant is made anew wherever it is named.
 pub fn strokes() -> [u16; 256]
     ensures { result ≡ stroke_table }
@@ -34,11 +25,10 @@ fn code_point(entry: u16) -> u32
 fn arms_number(arms: Arms) -> u32
     ensures { (result ≡ arms_number arms) × (result < 256) }
 {
-    let up = arms.up;
-    let down = arms.down;
-    let left = arms.left;
-    let right = arms.right;
-    up.number() + 4 * down.number() + 16 * left.number() + 64 * right.number()
+    u32::from(arms.up)
+        + 4 * u32::from(arms.down)
+        + 16 * u32::from(arms.left)
+        + 64 * u32::from(arms.right)
 }
 
 // "Strokes become Box Drawing characters .. by a table over the four arms".
@@ -73,25 +63,25 @@ fn marker_shape(kind: MarkerKind, dir: Dir) -> u32
     }
 }
 
-// "A continuation writes nothing, empty writes a space". Most cells of a sheet are empty (tag 0) or strokes (tag 2):
+// The character that a cell is written as, by its code point: "A continuation writes nothing, empty writes a space". Most cells of a sheet are empty (tag 0) or strokes (tag 2):
 // they go past the general match.
-pub fn shape_of(word: u32, strokes: &[u16; 256]) -> Shape
+pub fn shape_of(word: u32, strokes: &[u16; 256]) -> Option<u32>
     requires { strokes.now ≡ stroke_table }
     ensures { result ≡ shape_of (read word) }
 {
     if word < 0x4000_0000 {
-        return Shape::Character(0x20);
+        return Some(0x20);
     }
     if word / 0x4000_0000 == 2 {
-        return Shape::Character(stroke_shape(Arms::read(word), strokes));
+        return Some(stroke_shape(Arms::read(word), strokes));
     }
     let parts = Parts::read(word);
     match parts {
-        Parts::Empty => Shape::Character(0x20),
-        Parts::Text(ch) => Shape::Character(ch),
-        Parts::Continuation => Shape::Nothing,
-        Parts::Stroke(arms) => Shape::Character(stroke_shape(arms, strokes)),
-        Parts::Marker { kind, dir, .. } => Shape::Character(marker_shape(kind, dir)),
+        Parts::Empty => Some(0x20),
+        Parts::Text(ch) => Some(ch),
+        Parts::Continuation => None,
+        Parts::Stroke(arms) => Some(stroke_shape(arms, strokes)),
+        Parts::Marker { kind, dir, .. } => Some(marker_shape(kind, dir)),
     }
 }
 

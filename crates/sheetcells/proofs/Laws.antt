@@ -8,9 +8,7 @@ use lib.ListN.{length}
 use mir.Val.{Fits}
 use mir.Syntax.{w64}
 use Rattle.refusals.specs.declared.Answer.{Answer}
-use Rattle.refusals.specs.declared.Verdict.{Verdict}
-use Rattle.refusals.specs.declared.Verdict.TheVariants.{Passed}
-use Rattle.refusals.specs.FirstBroken.{first_broken}
+use Rattle.refusals.specs.FirstBroken.{Verdict, Passed, first_broken}
 use Rattle.refusals.specs.Rules.{rules, checked}
 use Rattle.refusals.specs.Accepted.{Keeps}
 use Rattle.refusals.proofs.Theorems.{accepted_iff, accepted_passes}

@@ -9,9 +9,7 @@ ghost use Rattle.picture.specs.Picture as picture;
 ghost use Rattle.picture.specs.Painted.{scratch_room};
 ghost use Rattle.sheetcells.specs.Bands.{band_rows, band_cells};
 
-use image_input::Image;
 use layout::{HEADER_HEIGHT, HEADER_WIDTH, MAX_WIDTH, word};
-use refusals::Verdict;
 use std::io;
 
 mod say;
@@ -44,12 +42,10 @@ fn row_start(width: usize, rows: usize, k: usize) -> usize
 fn print_lines(rt: &impl Print, cells: &[u32], width: usize, rows: usize) -> io::Result<()>
     requires { (width * rows ≤ band_cells) × (length cells.now ≡ band_cells) }
 {
-    let mut k: usize = 0;
-    while k < rows {
+    for k in 0..rows {
         let from = row_start(width, rows, k);
         let to = from + width;
         say::row(rt, &cells[from..to])?;
-        k += 1;
     }
     Ok(())
 }
@@ -82,6 +78,7 @@ fn print_rows(
 ) -> io::Result<()>
     requires { Keeps image.now × (width ≡ picture.width image.now) × (height ≡ picture.height image.now) × (scratch_room image.now ≤ length scratch.old) × (length cells.old ≡ band_cells) }
 {
+    // no `for`: a band is as high as is left, and `first` goes up by its rows
     let mut first: usize = 0;
     while first < height {
         let rows = ground::min(BAND_ROWS, height - first);
@@ -102,8 +99,8 @@ fn print_bands(
     requires { Keeps image.now × (length cells.old ≡ band_cells) }
 {
     let tried = lending::check_plain(image, 0, 0, cells, scratch);
-    if let Verdict::Refused { code, place } = tried {
-        return say::refused(rt, code, place);
+    if let Err(refusal) = tried {
+        return say::refused(rt, refusal.code, refusal.place);
     }
     let width = ground::number(word(image, HEADER_WIDTH));
     let height = ground::number(word(image, HEADER_HEIGHT));
@@ -155,8 +152,7 @@ fn print_input<R: io::Read>(
     bytes: &mut [u8],
     words: &mut [u32],
 ) -> io::Result<()> {
-    let came = image_input::read_image(from, bytes, words);
-    let Image::Words(count) = came else {
+    let Ok(count) = image_input::read_image(from, bytes, words) else {
         return say::unread(rt);
     };
     print_image(rt, &words[..count])

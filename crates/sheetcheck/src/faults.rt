@@ -1,134 +1,94 @@
 // Codes 5 to 9 and 13: what is wrong with a record whose words each keep their rule.
-use crate::say;
-use crate::say::form;
+use crate::names;
 use finding::{OrderFaults, RangeFaults};
 use glyph_owner::GlyphOwner;
-use ground::{Found, number};
-use image::FlowAxis;
+use image::{ElementKind, FlowAxis};
 use low_corner::LowCorner;
 use rows::Rows;
 use std::io;
 
-fn say_fixed(rt: &impl Print, fixed: Found) -> io::Result<()> {
-    let Found::At(value) = fixed else {
-        return Ok(());
-    };
-    form(
-        rt,
-        b"; holds @, and no range may hold 0020, 0022, 005B or 005D",
-        value,
-        0,
-        0,
-        0,
-    )
-}
-
 // How width range k breaks the rule of code 5.
 pub fn range(rt: &impl Print, faults: RangeFaults, k: usize) -> io::Result<()> {
-    let last_before = number(faults.last_before);
-    form(
-        rt,
-        b": from @ to @",
-        number(faults.first),
-        number(faults.last),
-        0,
-        0,
-    )?;
+    let first_before = faults.first_before;
+    let last_before = faults.last_before;
+    print!(rt; ": from {:04X} to {:04X}", faults.first, faults.last)?;
     if 0 < k {
-        form(
-            rt,
-            b", after width range %, from @ to @",
-            k - 1,
-            number(faults.first_before),
-            last_before,
-            0,
+        print!(rt;
+            ", after width range {}, from {first_before:04X} to {last_before:04X}",
+            k - 1
         )?;
     }
     if faults.turned {
-        say::text(rt, b"; its first must be at most its last")?;
+        print!(rt; "; its first must be at most its last")?;
     }
     if faults.not_above {
-        form(rt, b"; its first must be above @", last_before, 0, 0, 0)?;
+        print!(rt; "; its first must be above {last_before:04X}")?;
     }
-    let fixed = faults.fixed;
-    say_fixed(rt, fixed)
+    if let Some(held) = faults.fixed {
+        print!(rt; "; holds {held:04X}, and no range may hold 0020, 0022, 005B or 005D")?;
+    }
+    Ok(())
 }
 
 // A glyph that is a control character, and the first label that uses it.
-pub fn control(rt: &impl Print, value: u32, owner: GlyphOwner) -> io::Result<()> {
-    form(
-        rt,
-        b": holds @, a control character",
-        number(value),
-        0,
-        0,
-        0,
-    )?;
-    let GlyphOwner::Label {
-        kind,
-        index,
-        position,
-    } = owner
-    else {
-        return say::text(
-            rt,
-            b"; no label uses it; take it out of the table, or put a printable character in its place",
+pub fn control(rt: &impl Print, value: u32, owner: Option<GlyphOwner>) -> io::Result<()> {
+    print!(rt; ": holds {value:04X}, a control character")?;
+    let Some(owner) = owner else {
+        return print!(rt;
+            "; no label uses it; take it out of the table, or put a printable character in its place"
         );
     };
-    form(
-        rt,
-        b"; it is glyph % of the label of ~ %; take it out of the label, or put a printable character in its place",
-        position,
-        number(image::element_kind_number(kind)),
+    let name = names::element(owner.kind);
+    let GlyphOwner {
         index,
-        0,
+        position,
+        ..
+    } = owner;
+    print!(rt;
+        "; it is glyph {position} of the label of {name} {index}; take it out of the label, or put a printable character in its place"
     )
 }
 
-// 0 on Y flow, where a corner has a row, and 1 on X flow, where it has a column.
-fn axis_number(axis: FlowAxis) -> usize {
-    match axis {
-        FlowAxis::Y => 0,
-        FlowAxis::X => 1,
-    }
-}
-
 // The corner of an edge that lies below 0.
-pub fn corner(rt: &impl Print, low: LowCorner) -> io::Result<()> {
-    let LowCorner::At {
+pub fn corner(rt: &impl Print, low: Option<LowCorner>) -> io::Result<()> {
+    let Some(low) = low else {
+        return Ok(());
+    };
+    let LowCorner {
         axis,
         leg,
         start,
         steps,
-    } = low
-    else {
-        return Ok(());
-    };
-    let bends = say::part(
-        b": its leg % starts on row % and bends % cell+ further up, on row -%|: its leg % starts on column % and bends % cell+ further left, on column -%",
-        b'|',
-        axis_number(axis),
-    );
-    form(rt, bends, leg, start, steps, ground::minus(steps, start))?;
-    say::text(
-        rt,
-        b"; a leg bends 1 cell past its start, and leg 0 its start offset more",
-    )
+    } = low;
+    let s = names::plural(steps);
+    let below = ground::minus(steps, start);
+    match axis {
+        FlowAxis::Y => {
+            print!(rt;
+                ": its leg {leg} starts on row {start} and bends {steps} cell{s} further up, on row -{below}"
+            )
+        }
+        FlowAxis::X => {
+            print!(rt;
+                ": its leg {leg} starts on column {start} and bends {steps} cell{s} further left, on column -{below}"
+            )
+        }
+    }?;
+    print!(rt; "; a leg bends 1 cell past its start, and leg 0 its start offset more")
 }
 
-// A thing, of the kind of this number, that an element lists already.
-pub fn twice(rt: &impl Print, kind: u32, index: u32, lister: Found) -> io::Result<()> {
-    let Found::At(k) = lister else {
+// A thing that an element lists already.
+pub fn twice(
+    rt: &impl Print,
+    kind: ElementKind,
+    index: u32,
+    lister: Option<usize>,
+) -> io::Result<()> {
+    let Some(k) = lister else {
         return Ok(());
     };
-    form(
-        rt,
-        b": lists ~ %, which element % lists already",
-        number(kind),
-        number(index),
-        k,
-        0,
-    )
+    let name = names::element(kind);
+    print!(rt; ": lists {name} {index}, which element {k} lists already")
 }
 
 // Element k, whose rows are out of order.
@@ -139,53 +99,30 @@ pub fn order(
     faults: OrderFaults,
     k: usize,
 ) -> io::Result<()> {
-    form(
-        rt,
-        b": first row %, last row %",
-        number(first),
-        number(last),
-        0,
-        0,
-    )?;
+    print!(rt; ": first row {first}, last row {last}")?;
     if faults.turned {
-        say::text(rt, b"; the first row must be at most the last")?;
+        print!(rt; "; the first row must be at most the last")?;
     }
     if faults.early {
-        form(
-            rt,
-            b"; its first row must be at least %, that of element % before it",
-            number(faults.before),
-            ground::minus(k, 1),
-            0,
-            0,
+        let before = faults.before;
+        print!(rt;
+            "; its first row must be at least {before}, that of element {} before it",
+            ground::minus(k, 1)
         )?;
     }
     Ok(())
 }
 
 // The rows of the sheet that a thing touches.
-pub fn touched(rt: &impl Print, rows: Rows) -> io::Result<()> {
-    let Rows::From { first, last } = rows else {
+pub fn touched(rt: &impl Print, rows: Option<Rows>) -> io::Result<()> {
+    let Some(rows) = rows else {
         return Ok(());
     };
-    form(
-        rt,
-        b": the first touched row of the sheet is %, the last is %",
-        first,
-        last,
-        0,
-        0,
-    )
+    let Rows { first, last } = rows;
+    print!(rt; ": the first touched row of the sheet is {first}, the last is {last}")
 }
 
 // The rows on which element k lists a thing.
 pub fn listed(rt: &impl Print, k: usize, first: u32, last: u32) -> io::Result<()> {
-    form(
-        rt,
-        b"; element % lists rows % to %, and must list both",
-        k,
-        number(first),
-        number(last),
-        0,
-    )
+    print!(rt; "; element {k} lists rows {first} to {last}, and must list both")
 }

@@ -4,15 +4,13 @@
 ghost use Rattle.std.specs.Prelude.{◌<◌, ◌≤◌};
 
 use finding::element;
-use ground::Found;
 use image::ElementKind;
-use image_input::{Image, MOST_WORDS};
+use image_input::MOST_WORDS;
 use layout::{FieldName, HEADER_HEIGHT, HEADER_RUNS, HEADER_WIDTH, MAX_THINGS, RecordKind, word};
 use std::io;
 
 mod faults;
 mod names;
-mod say;
 mod words;
 
 // More than the records of any table.
@@ -22,24 +20,12 @@ const RECORD_LIMIT: usize = layout::MAX_GLYPHS as usize + 1;
 const FIELD_LIMIT: usize = layout::EDGE_SIZE + 1;
 
 fn explain_length(rt: &impl Print, length: usize, wanted: usize) -> io::Result<()> {
+    let s = names::plural(length);
+    print!(rt; "the image has {length} word{s}; its header and tables want {wanted}, which is ")?;
     if length < wanted {
-        say::form(
-            rt,
-            b"the image has % word+; its header and tables want %, which is % more\n",
-            length,
-            wanted,
-            wanted - length,
-            0,
-        )
+        println!(rt; "{} more", wanted - length)
     } else {
-        say::form(
-            rt,
-            b"the image has % word+; its header and tables want %, which is % fewer\n",
-            length,
-            wanted,
-            length - wanted,
-            0,
-        )
+        println!(rt; "{} fewer", length - wanted)
     }
 }
 
@@ -47,13 +33,10 @@ fn explain_runs(rt: &impl Print, image: &[u32]) -> io::Result<()> {
     let ts = layout::tables_of(image);
     let edges = ts.edges;
     if edges.count <= ground::number(MAX_THINGS) {
-        say::form(
-            rt,
-            b"header, run capacity: holds %; must be at least %, the number of runs on rows of the sheet\n",
-            ground::number(word(image, HEADER_RUNS)),
-            things::run_count(image, ts),
-            0,
-            0,
+        let held = word(image, HEADER_RUNS);
+        let runs = things::run_count(image, ts);
+        println!(rt;
+            "header, run capacity: holds {held}; must be at least {runs}, the number of runs on rows of the sheet"
         )?;
     }
     Ok(())
@@ -73,9 +56,8 @@ fn explain_twice(rt: &impl Print, image: &[u32], k: usize) -> io::Result<()>
 {
     let listed = element(image, k);
     let kind = listed.kind;
-    let number = image::element_kind_number(kind);
-    let lister = finding::lister_of(image, number, ground::number(listed.index));
-    faults::twice(rt, number, listed.index, lister)
+    let lister = finding::lister_of(image, u32::from(kind), ground::number(listed.index));
+    faults::twice(rt, kind, listed.index, lister)
 }
 
 // Element k, whose rows are out of order.
@@ -94,9 +76,9 @@ fn explain_listing(
     kind: ElementKind,
     index: usize,
 ) -> io::Result<()> {
-    let lister = finding::lister_of(image, image::element_kind_number(kind), index);
-    let Found::At(k) = lister else {
-        return say::text(rt, b"; no element lists it, and one must list both");
+    let lister = finding::lister_of(image, u32::from(kind), index);
+    let Some(k) = lister else {
+        return print!(rt; "; no element lists it, and one must list both");
     };
     if k < RECORD_LIMIT {
         let own = element(image, k);
@@ -135,7 +117,7 @@ fn explain_record(
 ) -> io::Result<()>
     requires { (k < 4294967296) × (field ≤ 16) }
 {
-    say::form(rt, b"~ %", names::kind_number(kind), k, 0, 0)?;
+    print!(rt; "{} {k}", names::record(kind))?;
     match code {
         refusals::BAD_FIELD => words::explain(rt, image, kind, k, field),
         refusals::BAD_RANGE => faults::range(rt, finding::range_faults(image, k), k),
@@ -145,7 +127,7 @@ fn explain_record(
         refusals::OUT_OF_ORDER => explain_order(rt, image, k),
         _ => explain_touched(rt, image, kind, k),
     }?;
-    say::text(rt, b"\n")
+    print!(rt; "\n")
 }
 
 // The record that a refusal's place is in.
@@ -154,24 +136,20 @@ fn explain_place(rt: &impl Print, image: &[u32], code: u32, place: usize) -> io:
     let FieldName::Record { kind, index, field } = at else {
         return Ok(());
     };
-    if index < RECORD_LIMIT {
-        if field < FIELD_LIMIT {
-            explain_record(rt, image, code, kind, index, field)?;
-        }
+    if index < RECORD_LIMIT && field < FIELD_LIMIT {
+        explain_record(rt, image, code, kind, index, field)?;
     }
     Ok(())
 }
 
+fn explain_short(rt: &impl Print, length: usize) -> io::Result<()> {
+    let s = names::plural(length);
+    println!(rt; "the image has {length} word{s}; a header has 12")
+}
+
 fn explain(rt: &impl Print, image: &[u32], code: u32, place: usize) -> io::Result<()> {
     match code {
-        refusals::TOO_SHORT => say::form(
-            rt,
-            b"the image has % word+; a header has 12\n",
-            image.len(),
-            0,
-            0,
-            0,
-        ),
+        refusals::TOO_SHORT => explain_short(rt, image.len()),
         refusals::OVER_LIMIT => words::explain_header(rt, place, word(image, place)),
         refusals::WRONG_LENGTH => explain_length(rt, image.len(), place),
         refusals::TOO_MANY_RUNS => explain_runs(rt, image),
@@ -182,50 +160,16 @@ fn explain(rt: &impl Print, image: &[u32], code: u32, place: usize) -> io::Resul
 fn report(rt: &impl Print, image: &[u32]) -> io::Result<()> {
     let answer = refusals::check(image);
     if answer.code == 0 {
-        say::form(
-            rt,
-            b"accepted width % height % runs %\n",
-            ground::number(word(image, HEADER_WIDTH)),
-            ground::number(word(image, HEADER_HEIGHT)),
-            answer.runs,
-            0,
+        let width = word(image, HEADER_WIDTH);
+        let height = word(image, HEADER_HEIGHT);
+        println!(rt;
+            "accepted width {width} height {height} runs {}",
+            answer.runs
         )
     } else {
-        say::form(
-            rt,
-            b"refused % %\n",
-            ground::number(answer.code),
-            answer.place,
-            0,
-            0,
-        )?;
+        println!(rt; "refused {} {}", answer.code, answer.place)?;
         explain(rt, image, answer.code, answer.place)
     }
-}
-
-fn unreadable(rt: &impl Print) -> io::Result<()> {
-    say::text(
-        rt,
-        b"unread\nthe input cannot be read; standard input may be closed, or a folder\n",
-    )
-}
-
-fn too_long(rt: &impl Print) -> io::Result<()> {
-    say::text(
-        rt,
-        b"unread\nthe input has over 327728 bytes; an image has at most 81932 words, of four bytes each\n",
-    )
-}
-
-fn broken_word(rt: &impl Print, got: usize) -> io::Result<()> {
-    say::form(
-        rt,
-        b"unread\nthe input has % byte+, no whole number of words; a word has four bytes\n",
-        got,
-        0,
-        0,
-        0,
-    )
 }
 
 // Reads an image and reports on it.
@@ -235,12 +179,9 @@ fn report_input<R: io::Read>(
     bytes: &mut [u8],
     words: &mut [u32],
 ) -> io::Result<()> {
-    let came = image_input::read_image(from, bytes, words);
-    match came {
-        Image::Words(count) => report(rt, &words[..count]),
-        Image::Failed => unreadable(rt),
-        Image::TooLong => too_long(rt),
-        Image::Broken(got) => broken_word(rt, got),
+    match image_input::read_image(from, bytes, words) {
+        Ok(count) => report(rt, &words[..count]),
+        Err(why) => println!(rt; "unread\n{why}"),
     }
 }
 

@@ -1,73 +1,47 @@
 // Codes 2 and 4: what a word of the header or of a record holds, and what it may hold.
 ghost use Rattle.std.specs.Prelude.{◌≤◌, ◌<◌};
 
-use crate::names::kind_number;
-use crate::{names, say};
+use crate::names;
 use layout::RecordKind;
 use std::io;
 use word_rules::WordRule;
 
 // Flags whose bits below the one of this value are spare.
 fn say_flags(rt: &impl Print, value: u32, lowest: u32) -> io::Result<()> {
-    if 0 < lowest {
-        say::form(
-            rt,
-            b": holds #; spare bits # must be 0, in use are bits 31 to %",
-            ground::number(value),
-            ground::number(value % lowest),
-            ground::number(u32::trailing_zeros(lowest)),
-            0,
-        )?;
+    if lowest == 0 {
+        return Ok(());
     }
-    Ok(())
+    let spare = value % lowest;
+    let last = lowest.trailing_zeros();
+    print!(rt;
+        ": holds {value:08X}; spare bits {spare:08X} must be 0, in use are bits 31 to {last}"
+    )
 }
 
 fn say_edge_flags(rt: &impl Print, flags: u32) -> io::Result<()> {
     let faults = word_rules::flag_faults(flags);
-    say::form(rt, b": holds #", ground::number(flags), 0, 0, 0)?;
+    print!(rt; ": holds {flags:08X}")?;
     if faults.path {
-        let path = ground::number(edge_rules::path_number(flags));
-        say::form(
-            rt,
-            b"; path is %, may be 0 to 5 (bits 31 to 29)",
-            path,
-            0,
-            0,
-            0,
-        )?;
+        let path = edge_rules::path_number(flags);
+        print!(rt; "; path is {path}, may be 0 to 5 (bits 31 to 29)")?;
     }
     if faults.weight {
-        say::text(rt, b"; weight is 0, may be 1 to 3 (bits 24 and 23)")?;
+        print!(rt; "; weight is 0, may be 1 to 3 (bits 24 and 23)")?;
     }
-    if faults.spare != 0 {
-        let spare = ground::number(faults.spare);
-        say::form(
-            rt,
-            b"; spare bits # must be 0, in use are bits 31 to 22",
-            spare,
-            0,
-            0,
-            0,
-        )?;
+    let spare = faults.spare;
+    if spare != 0 {
+        print!(rt; "; spare bits {spare:08X} must be 0, in use are bits 31 to 22")?;
     }
     Ok(())
 }
 
 // An index that is not below a table's count.
-fn say_below(rt: &impl Print, of: RecordKind, value: u32, held: usize) -> io::Result<()> {
-    let index = ground::number(value);
-    let kind = kind_number(of);
+fn say_below(rt: &impl Print, of: RecordKind, index: u32, held: usize) -> io::Result<()> {
+    let name = names::record(of);
     if held == 0 {
-        say::form(rt, b": holds %; the image has no ~", index, kind, 0, 0)
+        print!(rt; ": holds {index}; the image has no {name}")
     } else {
-        say::form(
-            rt,
-            b": holds %; must be below %, the number of ~s",
-            index,
-            held,
-            kind,
-            0,
-        )
+        print!(rt; ": holds {index}; must be below {held}, the number of {name}s")
     }
 }
 
@@ -75,42 +49,15 @@ fn say_below(rt: &impl Print, of: RecordKind, value: u32, held: usize) -> io::Re
 fn say_span(
     rt: &impl Print,
     of: RecordKind,
-    value: u32,
-    number: u32,
+    start: u32,
+    count: u32,
     held: usize,
 ) -> io::Result<()> {
-    let start = ground::number(value);
-    let count = ground::number(number);
-    say::form(
-        rt,
-        b": hold % and %, together %; together may be at most %",
-        start,
-        count,
-        start + count,
-        held,
-    )?;
-    say::form(rt, b", the number of ~s", kind_number(of), 0, 0, 0)
-}
-
-// Which of the texts below a rule has.
-fn limit_number(rule: WordRule) -> usize {
-    match rule {
-        WordRule::Within => 0,
-        WordRule::Zero => 1,
-        WordRule::Kind => 2,
-        WordRule::Scalar => 3,
-        WordRule::RangeEnd => 4,
-        _ => 5,
-    }
-}
-
-fn say_limit(rt: &impl Print, rule: WordRule, value: u32) -> io::Result<()> {
-    let limit = say::part(
-        b": holds %; may hold 0 to 32767|: holds %; must be 0|: holds %; may hold 0 (node), 1 (edge) or 2 (subgraph)|: holds @; may hold 0000 to D7FF or E000 to 10FFFF|: holds @; may hold 0000 to 10FFFF|: holds %; may hold 0 or 2",
-        b'|',
-        limit_number(rule),
-    );
-    say::form(rt, limit, ground::number(value), 0, 0, 0)
+    let end = ground::number(start) + ground::number(count);
+    let name = names::record(of);
+    print!(rt;
+        ": hold {start} and {count}, together {end}; together may be at most {held}, the number of {name}s"
+    )
 }
 
 // What a word holds, and what it may hold by its rule.
@@ -120,27 +67,33 @@ fn say_rule(rt: &impl Print, rule: WordRule, value: u32) -> io::Result<()> {
         WordRule::Span { of, count, held } => say_span(rt, of, value, count, held),
         WordRule::Flags(lowest) => say_flags(rt, value, lowest),
         WordRule::EdgeFlags => say_edge_flags(rt, value),
-        _ => say_limit(rt, rule, value),
+        WordRule::Within => print!(rt; ": holds {value}; may hold 0 to 32767"),
+        WordRule::Zero => print!(rt; ": holds {value}; must be 0"),
+        WordRule::Kind => {
+            print!(rt; ": holds {value}; may hold 0 (node), 1 (edge) or 2 (subgraph)")
+        }
+        WordRule::Scalar => {
+            print!(rt; ": holds {value:04X}; may hold 0000 to D7FF or E000 to 10FFFF")
+        }
+        WordRule::RangeEnd => print!(rt; ": holds {value:04X}; may hold 0000 to 10FFFF"),
+        _ => print!(rt; ": holds {value}; may hold 0 or 2"),
     }
-}
-
-fn bit_number(set: bool) -> usize {
-    if set { 1 } else { 0 }
 }
 
 // What of an edge's flags decides the rule of a field.
 fn why_edge(rt: &impl Print, flags: u32, field: usize) -> io::Result<()> {
     match field {
-        layout::EDGE_A | layout::EDGE_B | layout::EDGE_C => names::path_word(
-            rt,
-            ground::number(edge_rules::path_number(flags)),
-            ground::minus(field, layout::EDGE_A),
-        ),
-        layout::EDGE_LABEL_START | layout::EDGE_LABEL_COUNT => say::nth(
-            rt,
-            b", as the label bit (22) of its flags is not set|, as the label bit (22) of its flags is set",
-            bit_number(layout::flag(flags, layout::LABEL_PRESENT)),
-        ),
+        layout::EDGE_A | layout::EDGE_B | layout::EDGE_C => {
+            let path = edge_rules::path_number(flags);
+            let Some(name) = names::path(path) else {
+                return Ok(());
+            };
+            print!(rt; ", as path {name}{}", names::path_word(path, field))
+        }
+        layout::EDGE_LABEL_START | layout::EDGE_LABEL_COUNT => {
+            let bit = names::bit(layout::flag(flags, layout::LABEL_PRESENT));
+            print!(rt; ", as the label bit (22) of its flags is {bit}")
+        }
         _ => Ok(()),
     }
 }
@@ -148,11 +101,10 @@ fn why_edge(rt: &impl Print, flags: u32, field: usize) -> io::Result<()> {
 // What of a node's flags decides the rule of a field.
 fn why_node(rt: &impl Print, flags: u32, field: usize) -> io::Result<()> {
     match field {
-        layout::NODE_LOOP_X | layout::NODE_LOOP_Y => say::nth(
-            rt,
-            b", as the self-loop bit (29) of its flags is not set|, as the self-loop bit (29) of its flags is set",
-            bit_number(layout::flag(flags, layout::SELF_LOOP)),
-        ),
+        layout::NODE_LOOP_X | layout::NODE_LOOP_Y => {
+            let bit = names::bit(layout::flag(flags, layout::SELF_LOOP));
+            print!(rt; ", as the self-loop bit (29) of its flags is {bit}")
+        }
         _ => Ok(()),
     }
 }
@@ -161,12 +113,9 @@ fn why_node(rt: &impl Print, flags: u32, field: usize) -> io::Result<()> {
 fn say_field(rt: &impl Print, rule: WordRule, kind: RecordKind, field: usize) -> io::Result<()>
     requires { field ≤ 16 }
 {
-    let number = kind_number(kind);
-    say::text(rt, b", ")?;
-    names::field(rt, number, field)?;
-    if let WordRule::Span { of, count, held } = rule {
-        say::text(rt, b" and ")?;
-        names::field(rt, number, field + 1)?;
+    print!(rt; ", {}", names::field(kind, field))?;
+    if matches!(rule, WordRule::Span { .. }) {
+        print!(rt; " and {}", names::field(kind, field + 1))?;
     }
     Ok(())
 }
@@ -215,19 +164,11 @@ fn header_limit(field: usize) -> u32 {
 
 // A word of the header.
 pub fn explain_header(rt: &impl Print, field: usize, value: u32) -> io::Result<()> {
-    say::text(rt, b"header, ")?;
-    names::header_field(rt, field)?;
+    print!(rt; "header, {}", names::header_field(field))?;
     if field == layout::HEADER_FLAGS {
         say_flags(rt, value, layout::HEADER_SPARE)?;
     } else {
-        say::form(
-            rt,
-            b": holds %; may hold 0 to %",
-            ground::number(value),
-            ground::number(header_limit(field)),
-            0,
-            0,
-        )?;
+        print!(rt; ": holds {value}; may hold 0 to {}", header_limit(field))?;
     }
-    say::text(rt, b"\n")
+    print!(rt; "\n")
 }

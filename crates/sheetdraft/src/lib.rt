@@ -109,8 +109,7 @@ fn count_place(kind: RecordKind) -> usize {
 
 // How many records of a kind there may be.
 pub fn limit(kind: RecordKind) -> usize {
-    let table = room_of(kind);
-    table.count
+    room_of(kind).count
 }
 
 // How many records of a kind a draft has.
@@ -118,101 +117,81 @@ pub fn count(draft: &[u32], kind: RecordKind) -> u32 {
     word(draft, count_place(kind))
 }
 
-// Where the words of a new record stand, or that there are as many as there may be.
-#[derive(Clone, Copy)]
-pub enum Room {
-    // where its first word stands
-    At(usize),
-    // no room is left
-    Full,
-}
-
 // Stores a word that is there.
 pub fn put(draft: &mut [u32], place: usize, value: u32) {
-    if place < draft.len() {
-        draft[place] = value;
+    if let Some(word) = draft.get_mut(place) {
+        *word = value;
     }
 }
 
 // Stores a field of the record at a place.
 pub fn put_field(draft: &mut [u32], record: usize, field: usize, value: u32) {
-    put(draft, std::num::wrapping_add_usize(record, field), value);
+    put(draft, record.wrapping_add(field), value);
 }
 
 // A field of the record at a place.
 pub fn field(draft: &[u32], record: usize, field: usize) -> u32 {
-    word(draft, std::num::wrapping_add_usize(record, field))
+    word(draft, record.wrapping_add(field))
 }
 
 // Adds a flag, which is not set yet, to a field of flags.
 pub fn put_flag(draft: &mut [u32], record: usize, flags: usize, bits: u32) {
-    let sum = std::num::wrapping_add_u32(field(draft, record, flags), bits);
+    let sum = field(draft, record, flags).wrapping_add(bits);
     put_field(draft, record, flags, sum);
 }
 
-// One record more, all zeros.
-pub fn add(draft: &mut [u32], kind: RecordKind) -> Room {
+// One record more, all zeros: where its first word stands, if there is room.
+pub fn add(draft: &mut [u32], kind: RecordKind) -> Option<usize> {
     let table = room_of(kind);
-    let limit = table.count;
     let records = count(draft, kind);
     let next = ground::number(records);
-    if next < limit {
+    if next < table.count {
         put(draft, count_place(kind), records + 1);
-        Room::At(layout::record_at(table, next))
+        Some(layout::record_at(table, next))
     } else {
-        Room::Full
+        None
     }
 }
 
 // Copies so many words from a place of a draft to a place of an image, and answers where they end there.
 fn copy(draft: &[u32], from: usize, words: usize, image: &mut [u32], to: usize) -> usize {
-    let mut k: usize = 0;
-    while k < words {
-        let place = std::num::wrapping_add_usize(to, k);
-        put(
-            image,
-            place,
-            word(draft, std::num::wrapping_add_usize(from, k)),
-        );
-        k += 1;
+    for k in 0..words {
+        put_field(image, to, k, field(draft, from, k));
     }
-    std::num::wrapping_add_usize(to, words)
+    to.wrapping_add(words)
 }
 
 // Copies the records that a table has.
 fn copy_table(draft: &[u32], kind: RecordKind, image: &mut [u32], to: usize) -> usize {
     let table = room_of(kind);
-    let start = table.start;
     let records = ground::number(count(draft, kind));
     let end = layout::record_at(table, records);
-    copy(draft, start, ground::minus(end, start), image, to)
+    let words = end.saturating_sub(table.start);
+    copy(draft, table.start, words, image, to)
 }
 
-// Copies nodes, edges, subgraphs and placed labels.
-fn copy_things(draft: &[u32], image: &mut [u32], to: usize) -> usize {
-    let edges = copy_table(draft, RecordKind::Node, image, to);
-    let subgraphs = copy_table(draft, RecordKind::Edge, image, edges);
-    let labels = copy_table(draft, RecordKind::Subgraph, image, subgraphs);
-    copy_table(draft, RecordKind::PlacedLabel, image, labels)
-}
-
-// Copies the tables behind the placed labels.
-fn copy_lists(draft: &[u32], image: &mut [u32], to: usize) -> usize {
-    let points = copy_table(draft, RecordKind::Element, image, to);
-    let glyphs = copy_table(draft, RecordKind::Point, image, points);
-    let ranges = copy_table(draft, RecordKind::Glyph, image, glyphs);
-    copy_table(draft, RecordKind::Range, image, ranges)
-}
+// The tables of an image, in turn.
+const TABLES: [RecordKind; 8] = [
+    RecordKind::Node,
+    RecordKind::Edge,
+    RecordKind::Subgraph,
+    RecordKind::PlacedLabel,
+    RecordKind::Element,
+    RecordKind::Point,
+    RecordKind::Glyph,
+    RecordKind::Range,
+];
 
 // The draft with its tables closed up; answers how many words the image has.
 pub fn close_up(draft: &[u32], image: &mut [u32]) -> usize {
-    let things = copy(draft, 0, HEADER_SIZE, image, 0);
-    let lists = copy_things(draft, image, things);
-    copy_lists(draft, image, lists)
+    let mut end = copy(draft, 0, HEADER_SIZE, image, 0);
+    for kind in TABLES {
+        end = copy_table(draft, kind, image, end);
+    }
+    end
 }
 
 // The first words of an image, as many as it has.
 pub fn first_words(image: &[u32], count: usize) -> &[u32] {
-    let end = ground::min(count, image.len());
-    &image[..end]
+    image.get(..count).unwrap_or(image)
 }

@@ -1,16 +1,14 @@
 // The lines of a sheet's text: a record each, with its fields in any order.
 #![tactic(auto)]
 
-use ground::Found;
 use layout::{RecordKind, word};
-use sheetdraft::Room;
-use sheetvalues::fault::{Expected, Fault, Step, wrong};
+use sheetvalues::fault::{Expected, Fault};
 use sheetvalues::fields;
-use sheetvalues::fields::{FILL_ELEMENTS, Field, SHEET_READ};
+use sheetvalues::fields::{FILL_ELEMENTS, SHEET_READ, Shape};
 use sheetwords::names::Record;
+use sheetwords::token;
 use sheetwords::token::{Kind, Token};
-use sheetwords::{names, token};
-use std::num::wrapping_add_usize;
+use std::fmt;
 
 // Marks of what a line has given: one for each word of a record, then one for each field that gives no word of its own.
 const MARKS: usize = 32;
@@ -18,90 +16,61 @@ const MARKS: usize = 32;
 const FIRST_FIELD_MARK: usize = 16;
 
 // Sets a mark, and answers whether it was not set before.
-fn mark(given: &mut [u8], at: usize) -> bool {
-    if at < given.len() {
-        let fresh = given[at] == 0;
-        given[at] = 1;
-        fresh
-    } else {
-        true
+fn mark(given: &mut [bool; MARKS], at: usize) -> bool {
+    match given.get_mut(at) {
+        Some(mark) => !std::mem::replace(mark, true),
+        None => true,
     }
 }
 
 // Marks what a field gives, and answers whether all of it is new.
-fn mark_field(given: &mut [u8], field: Field, number: usize) -> bool {
-    let place = field.place;
-    let words = field.words;
-    if words == 0 {
-        return mark(given, wrapping_add_usize(FIRST_FIELD_MARK, number));
+fn mark_field(given: &mut [bool; MARKS], shape: Shape, number: usize) -> bool {
+    match shape.words() {
+        None => mark(given, FIRST_FIELD_MARK.wrapping_add(number)),
+        Some((place, 1)) => mark(given, place),
+        Some((place, _)) => mark(given, place) && mark(given, place.wrapping_add(1)),
     }
-    if !mark(given, place) {
-        return false;
-    }
-    if words == 1 {
-        return true;
-    }
-    mark(given, wrapping_add_usize(place, 1))
 }
 
-// The field whose name stands here.
-fn read_named(
-    line: &[u8],
-    name: Token,
+// The field whose name this is; answers what stands behind it on the line.
+fn read_named<'a>(
+    name: Token<'a>,
     kind: Record,
-    given: &mut [u8],
+    given: &mut [bool; MARKS],
     draft: &mut [u32],
     record: usize,
-) -> Step {
-    let number = names::field_number(kind, token::bytes(line, name));
-    let Found::At(n) = number else {
-        return wrong(Expected::FieldOf(kind), name.start, name.end);
+) -> Result<&'a [u8], Fault<'a>> {
+    let Some((number, field)) = fields::field_named(kind, name.bytes) else {
+        return Err(Fault::new(Expected::FieldOf(kind), name.bytes));
     };
-    let field = fields::field_of(kind, n);
-    if mark_field(given, field, n) {
-        sheetvalues::read_value(line, name, field, draft, record)
+    if mark_field(given, field.1, number) {
+        sheetvalues::read_value(name.rest, field, draft, record)
     } else {
-        wrong(Expected::NewField, name.start, name.end)
-    }
-}
-
-// The next field of a line, or its end.
-fn read_field(
-    line: &[u8],
-    from: usize,
-    kind: Record,
-    given: &mut [u8],
-    draft: &mut [u32],
-    record: usize,
-) -> Step {
-    let name = token::next(line, from);
-    let what = name.kind;
-    match what {
-        Kind::End => Step::At(line.len()),
-        Kind::Word => read_named(line, name, kind, given, draft, record),
-        _ => wrong(Expected::FieldOf(kind), name.start, name.end),
+        Err(Fault::new(Expected::NewField, name.bytes))
     }
 }
 
 // All fields of a line, into the record at a place of the draft.
-fn read_fields(
-    line: &[u8],
-    from: usize,
+fn read_fields<'a>(
+    line: &'a [u8],
     kind: Record,
-    given: &mut [u8],
     draft: &mut [u32],
     record: usize,
-) -> Step {
-    let mut at = from;
-    while at < line.len() {
-        let step = read_field(line, at, kind, given, draft, record);
-        let Step::At(next) = step else {
-            return step;
+) -> Result<(), Fault<'a>> {
+    let mut given = [false; MARKS];
+    let mut rest = line;
+    // a field has a byte at least
+    for _ in 0..line.len() {
+        let name = token::next(rest);
+        rest = match name.kind {
+            Kind::End => return Ok(()),
+            Kind::Word => read_named(name, kind, &mut given, draft, record)?,
+            Kind::Quoted | Kind::Unclosed => {
+                return Err(Fault::new(Expected::FieldOf(kind), name.bytes));
+            }
         };
-        // a field has a byte at least
-        at = ground::max(next, at + 1);
     }
-    Step::At(at)
+    Ok(())
 }
 
 // An edge that gives no weight is light.
@@ -117,105 +86,96 @@ fn give_weight(draft: &mut [u32], record: usize) {
 const LIGHT: u32 = 2;
 
 // The sheet line, into the header.
-fn read_sheet(line: &[u8], name: Token, draft: &mut [u32]) -> Step {
+fn read_sheet<'a>(name: Token<'a>, draft: &mut [u32]) -> Result<(), Fault<'a>> {
     if word(draft, SHEET_READ) != 0 {
-        return wrong(Expected::OneSheet, name.start, name.end);
+        return Err(Fault::new(Expected::OneSheet, name.bytes));
     }
     sheetdraft::put(draft, SHEET_READ, 1);
-    let mut given = [0u8; MARKS];
-    read_fields(line, name.end, Record::Sheet, &mut given, draft, 0)
+    read_fields(name.rest, Record::Sheet, draft, 0)
 }
 
 // A record of a table, into a new place of it.
-fn read_new(line: &[u8], name: Token, kind: RecordKind, draft: &mut [u32]) -> Step {
-    let room = sheetdraft::add(draft, kind);
-    let Room::At(record) = room else {
-        return wrong(Expected::Room(kind), name.start, name.end);
+fn read_new<'a>(name: Token<'a>, kind: RecordKind, draft: &mut [u32]) -> Result<(), Fault<'a>> {
+    let Some(record) = sheetdraft::add(draft, kind) else {
+        return Err(Fault::new(Expected::Room(kind), name.bytes));
     };
-    let mut given = [0u8; MARKS];
-    let step = read_fields(line, name.end, Record::Of(kind), &mut given, draft, record);
+    read_fields(name.rest, Record::Of(kind), draft, record)?;
     if let RecordKind::Edge = kind {
         give_weight(draft, record);
     }
-    step
+    Ok(())
 }
 
 // Whether a record of this kind may stand here: behind a sheet, and no element where they are filled in.
-fn read_placed(line: &[u8], name: Token, kind: RecordKind, draft: &mut [u32]) -> Step {
+fn read_placed<'a>(name: Token<'a>, kind: RecordKind, draft: &mut [u32]) -> Result<(), Fault<'a>> {
     if word(draft, SHEET_READ) == 0 {
-        return wrong(Expected::SheetFirst, name.start, name.end);
+        return Err(Fault::new(Expected::SheetFirst, name.bytes));
     }
-    if let RecordKind::Element = kind {
-        if word(draft, FILL_ELEMENTS) != 0 {
-            return wrong(Expected::NoElement, name.start, name.end);
-        }
+    if let RecordKind::Element = kind
+        && word(draft, FILL_ELEMENTS) != 0
+    {
+        return Err(Fault::new(Expected::NoElement, name.bytes));
     }
-    read_new(line, name, kind, draft)
+    read_new(name, kind, draft)
 }
 
-fn read_record(line: &[u8], name: Token, draft: &mut [u32]) -> Step {
-    let number = names::record_number(token::bytes(line, name));
-    let Found::At(n) = number else {
-        return wrong(Expected::RecordName, name.start, name.end);
-    };
-    let record = names::record_of(n);
-    match record {
-        Record::Sheet => read_sheet(line, name, draft),
-        Record::Of(kind) => read_placed(line, name, kind, draft),
+fn read_record<'a>(name: Token<'a>, draft: &mut [u32]) -> Result<(), Fault<'a>> {
+    match Record::named(name.bytes) {
+        Some(Record::Sheet) => read_sheet(name, draft),
+        Some(Record::Of(kind)) => read_placed(name, kind, draft),
+        None => Err(Fault::new(Expected::RecordName, name.bytes)),
     }
 }
 
 // A line: a record, or nothing.
-fn read_line(line: &[u8], draft: &mut [u32]) -> Step {
-    let name = token::next(line, 0);
-    let kind = name.kind;
-    match kind {
-        Kind::End => Step::At(0),
-        Kind::Word => read_record(line, name, draft),
-        _ => wrong(Expected::RecordName, name.start, name.end),
+fn read_line<'a>(line: &'a [u8], draft: &mut [u32]) -> Result<(), Fault<'a>> {
+    let name = token::next(line);
+    match name.kind {
+        Kind::End => Ok(()),
+        Kind::Word => read_record(name, draft),
+        Kind::Quoted | Kind::Unclosed => Err(Fault::new(Expected::RecordName, name.bytes)),
     }
 }
 
-// What came of reading a text.
+// Why a text is not read.
 #[derive(Clone, Copy)]
-pub enum Outcome {
-    // every line was read
-    Read,
+pub enum Unread<'a> {
     // a line cannot be read
-    Unread {
+    Line {
         // its number, from 1 on
-        line: usize,
-        // where it begins
-        start: usize,
-        // the place behind it
-        end: usize,
+        number: usize,
         // what is wrong on it
-        fault: Fault,
+        fault: Fault<'a>,
     },
     // no line gave a sheet; the number of the line behind the last
     NoSheet(usize),
 }
 
-// Reads all lines of a text into a draft, up to the first that cannot be read.
-pub fn read_text(text: &[u8], draft: &mut [u32]) -> Outcome {
-    let mut at: usize = 0;
-    let mut line: usize = 1;
-    while at < text.len() {
-        let end = token::end_of(text, at, b'\n');
-        let step = read_line(sheettext::part(text, at, end), draft);
-        if let Step::Wrong(fault) = step {
-            return Outcome::Unread {
-                line: line,
-                start: at,
-                end: end,
-                fault: fault,
-            };
+impl fmt::Display for Unread<'_> {
+    fn fmt<W: fmt::Write>(&self, f: &mut fmt::Formatter<W>) -> fmt::Result {
+        match self {
+            Unread::Line { number, fault } => write!(f, "line {number}: expected {fault}"),
+            Unread::NoSheet(number) => {
+                let expected = Expected::SheetFirst;
+                write!(
+                    f,
+                    "line {number}: expected {expected}, found the end of the text"
+                )
+            }
         }
-        at = end + 1;
-        line += 1;
+    }
+}
+
+// Reads all lines of a text into a draft, up to the first that cannot be read.
+pub fn read_text<'a>(text: &'a [u8], draft: &mut [u32]) -> Result<(), Unread<'a>> {
+    let mut number: usize = 1;
+    for line in text.split_inclusive(|byte| *byte == b'\n') {
+        let line = line.strip_suffix(b"\n").unwrap_or(line);
+        read_line(line, draft).map_err(|fault| Unread::Line { number, fault })?;
+        number = number.saturating_add(1);
     }
     if word(draft, SHEET_READ) == 0 {
-        return Outcome::NoSheet(line);
+        return Err(Unread::NoSheet(number));
     }
-    Outcome::Read
+    Ok(())
 }

@@ -3,15 +3,11 @@
 // standard error. The text's form is in docs/SHEETMAKE.md.
 #![tactic(auto)]
 
-use input::Input;
 use layout::word;
 use sheetdraft::MOST_WORDS;
-use sheetlines::Outcome;
 use sheettext::part;
 use sheetvalues::fields::{DRAFT_WORDS, FILL_ELEMENTS, FILL_RUNS};
 use std::io;
-
-mod say;
 
 // A text of at most 1 MiB.
 const MOST_BYTES: usize = 1048576;
@@ -46,43 +42,31 @@ fn write_words(
     bytes: &mut [u8],
 ) -> io::Result<()> {
     let count = wordfile::store(words, bytes);
-    match out.write_all(part(bytes, 0, count)) {
-        Ok(()) => Ok(()),
-        Err(_) => say::not_written(err),
-    }
+    out.write_all(part(bytes, 0, count)).or_else(|_| err.write_all(
+        b"unwritten\nstandard output cannot be written\n",
+    ))
 }
 
 // Makes the image of a text, or says why there is none.
 fn make(out: &impl Print, err: &impl Print, text: &[u8], bytes: &mut [u8]) -> io::Result<()> {
     let mut draft = [0u32; DRAFT_WORDS];
     let mut image = [0u32; MOST_WORDS];
-    let outcome = sheetlines::read_text(text, &mut draft);
-    match outcome {
-        Outcome::Read => {
+    match sheetlines::read_text(text, &mut draft) {
+        Ok(()) => {
             let count = finish(&mut draft, &mut image);
             write_words(out, err, sheetdraft::first_words(&image, count), bytes)
         }
-        Outcome::Unread {
-            line,
-            start,
-            end,
-            fault,
-        } => say::fault(err, part(text, start, end), line, fault),
-        Outcome::NoSheet(line) => say::no_sheet(err, line),
+        Err(unread) => print!(err; "unread\n{unread}\n"),
     }
 }
 
-// How many lines end within the bytes.
-fn lines_in(bytes: &[u8]) -> usize {
-    let mut lines: usize = 0;
-    let mut k: usize = 0;
-    while k < bytes.len() {
-        if bytes[k] == b'\n' {
-            lines += 1;
-        }
-        k += 1;
-    }
-    lines
+// The text goes on behind the most that is read.
+fn say_too_long(err: &impl Print, text: &[u8]) -> io::Result<()> {
+    let lines = text.iter().filter(|byte| **byte == b'\n').count();
+    let line = lines.saturating_add(1);
+    print!(err;
+        "unread\nline {line}: expected the end of the text within {MOST_BYTES} bytes, found more\n"
+    )
 }
 
 // The lent bytes have room for one more than the longest text has: where they are filled the input is longer, and is never taken for a whole one.
@@ -93,20 +77,10 @@ fn make_input<R: io::Read>(
     text: &mut [u8],
     bytes: &mut [u8],
 ) -> io::Result<()> {
-    let read = input::read_all(from, text);
-    match read {
-        Input::Bytes(got) => {
-            if MOST_BYTES < got {
-                say::too_long(
-                    err,
-                    std::num::wrapping_add_usize(lines_in(text), 1),
-                    MOST_BYTES,
-                )
-            } else {
-                make(out, err, part(text, 0, got), bytes)
-            }
-        }
-        Input::Failed => say::not_read(err),
+    match input::read_all(from, text) {
+        Ok(got) if MOST_BYTES < got => say_too_long(err, text),
+        Ok(got) => make(out, err, part(text, 0, got), bytes),
+        Err(_) => err.write_all(b"unread\nstandard input cannot be read\n"),
     }
 }
 

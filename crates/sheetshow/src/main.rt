@@ -9,7 +9,7 @@ ghost use Rattle.picture.specs.Picture as picture;
 ghost use Rattle.refusals.specs.Accepted.{Keeps};
 ghost use Rattle.sheetshow.specs.Room.{band_rows, band_cells, band_bytes, Planes, Answered};
 
-use image_input::{Image, MOST_WORDS};
+use image_input::MOST_WORDS;
 use layout::{HEADER_HEIGHT, HEADER_WIDTH, MAX_ELEMENTS, MAX_RUNS, MAX_WIDTH, word};
 use paint::Outcome;
 use sheettext::part;
@@ -308,8 +308,7 @@ fn show_input<R: io::Read>(
 ) -> io::Result<()>
     requires { Planes cells.old colours.old stamps.old scratch.old × (length out.old ≡ band_bytes) }
 {
-    let came = image_input::read_image(from, bytes, words);
-    let Image::Words(count) = came else {
+    let Ok(count) = image_input::read_image(from, bytes, words) else {
         return say::unread(rt);
     };
     show_image(

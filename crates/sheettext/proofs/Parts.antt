@@ -1,30 +1,13 @@
 -- Bytes and parts of a text, over plain variables.
 use native.Mathlib.Omega.{arith}
 use native.Mathlib.Numerals.{add-one}
-use Prim.Native.Nat.{ℕ, suc, ◌+◌, ◌-◌, ◌≤◌, ◌<◌, min}
-use mathlib.Core.Path.{◌≡◌, sym}
+use Prim.Native.Nat.{ℕ, suc, ◌+◌, ◌≤◌, ◌<◌}
+use mathlib.Core.Path.{◌≡◌}
 use mathlib.Core.List.{List, [], ◌∷◌}
-use lib.ListN.{length, get_or, take, drop, get_or-eq_default}
+use lib.ListN.{length, get_or, drop}
 use lib.Seq.{drop-cons, drop-length}
 use borrow.Author.Tests.{eq-eqb, ne_eqb}
-use Rattle.sheettext.specs.Parts.{part, until}
-
--- a byte that is there is the same whatever stands for one that is not
-pub there : (text : List ℕ) (at : ℕ) → at < length text → get_or text at 0 ≡ get_or text at 255
-there text at h =
-    let zero_first : drop at text ≡ get_or text at 0 ∷ drop (suc at) text = drop-cons text at 0 h in
-    let other_first : drop at text ≡ get_or text at 255 ∷ drop (suc at) text = drop-cons text at 255 h in
-    cc
-
-pub not_there : (text : List ℕ) (at : ℕ) → length text ≤ at → 255 ≡ get_or text at 255
-not_there text at h = sym (get_or-eq_default text 255 {n = at} h)
-
-pub part_is :
-    (text : List ℕ) (from to start end : ℕ) →
-    end ≡ min to (length text) →
-    start ≡ min from end →
-    take (end - start) (drop start text) ≡ part text from to
-part_is text from to start end p q = rw (q, p)
+use Rattle.sheettext.specs.Parts.{until}
 
 -- a turn of going to the first byte of a value
 

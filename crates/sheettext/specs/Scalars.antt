@@ -1,11 +1,15 @@
 -- A label "in UTF-8 with escapes \" \\ and \u{6F22}": one character at a time. A byte past the end reads 255, which no text in UTF-8 has.
-use Rattle.std.specs.Prelude.{ℕ, ◌+◌, ◌*◌, ◌-◌, Bool, cond, ◌&&◌, ◌||◌, List, eqb, leb, ltb, length, get_or}
+use Rattle.std.specs.Prelude.{ℕ, ◌+◌, ◌*◌, ◌-◌, Bool, cond, ◌&&◌, ◌||◌, List, eqb, leb, ltb, length, get_or, Result, Ok, Err}
 use Rattle.sheettext.specs.Parts.{part, until}
 use Rattle.sheettext.specs.Numbers.{in_base}
-use Rattle.sheettext.specs.declared.Reading.{Reading}
-use Rattle.sheettext.specs.declared.Reading.TheVariants as reading
-use Rattle.sheettext.specs.declared.Decoded.{Decoded}
-use Rattle.sheettext.specs.declared.Decoded.TheVariants as character
+use Rattle.sheettext.specs.declared.NumberError.{NumberError}
+use Rattle.sheettext.specs.declared.Glyph.{Glyph}
+use Rattle.sheettext.specs.declared.GlyphError.{GlyphError}
+use Rattle.sheettext.specs.declared.GlyphError.TheVariants.{NotUtf8, NotAnEscape}
+
+-- a character of this value in so many bytes
+abbrev pub glyph : ℕ → ℕ → Result Glyph GlyphError
+glyph value size = Ok (record { value = value; size = size })
 
 -- "a Unicode scalar value": to 10FFFF, and no surrogate
 unfoldable pub is_scalar : ℕ → Bool
@@ -16,11 +20,11 @@ unfoldable pub tail_of : ℕ → ℕ
 tail_of b = cond (leb 0x80 b && ltb b 0xC0) (b - 0x80) 0x110000
 
 -- a scalar value in so many bytes, if it is one that takes as many: none below `from` does
-unfoldable pub shortest : ℕ → ℕ → ℕ → Decoded
-shortest from size value = cond (leb from value && is_scalar value) (character.Glyph value size) character.NotUtf8
+unfoldable pub shortest : ℕ → ℕ → ℕ → Result Glyph GlyphError
+shortest from size value = cond (leb from value && is_scalar value) (glyph value size) (Err NotUtf8)
 
 -- the character that bytes in UTF-8 begin with
-unfoldable pub decoded : List ℕ → Decoded
+unfoldable pub decoded : List ℕ → Result Glyph GlyphError
 decoded bytes =
     let lead : ℕ = get_or bytes 0 255 in
     let one : ℕ = tail_of (get_or bytes 1 255) in
@@ -32,25 +36,24 @@ decoded bytes =
     (shortest 0x10000 4 ((lead - 0xF0) * 0x40000 + one * 0x1000 + two * 0x40 + three))))
 
 -- the character that a number names, in so many bytes
-unfoldable pub scalar_read : Reading → ℕ → Decoded
-scalar_read (reading.Value value) size = cond (is_scalar value) (character.Glyph value size) character.NotAnEscape
-scalar_read reading.TooLarge size = character.NotAnEscape
-scalar_read reading.NotANumber size = character.NotAnEscape
+unfoldable pub scalar_read : Result ℕ NumberError → ℕ → Result Glyph GlyphError
+scalar_read (Ok value) size = cond (is_scalar value) (glyph value size) (Err NotAnEscape)
+scalar_read (Err _) size = Err NotAnEscape
 
 -- `\u{`, hexadecimal digits, `}`: the digits and four bytes round them
-unfoldable pub by_number : List ℕ → Decoded
+unfoldable pub by_number : List ℕ → Result Glyph GlyphError
 by_number bytes =
     let rest : List ℕ = part bytes 3 (length bytes) in
     let digits : ℕ = until 125 rest in
-    cond (eqb digits (length rest)) character.NotAnEscape (scalar_read (in_base 16 (part rest 0 digits)) (digits + 4))
+    cond (eqb digits (length rest)) (Err NotAnEscape) (scalar_read (in_base 16 (part rest 0 digits)) (digits + 4))
 
 -- an escape, from the backslash on
-unfoldable pub unescaped : List ℕ → Decoded
+unfoldable pub unescaped : List ℕ → Result Glyph GlyphError
 unescaped bytes =
-    cond (eqb (get_or bytes 1 255) 34) (character.Glyph 34 2)
-    (cond (eqb (get_or bytes 1 255) 92) (character.Glyph 92 2)
-    (cond (eqb (get_or bytes 1 255) 117 && eqb (get_or bytes 2 255) 123) (by_number bytes) character.NotAnEscape))
+    cond (eqb (get_or bytes 1 255) 34) (glyph 34 2)
+    (cond (eqb (get_or bytes 1 255) 92) (glyph 92 2)
+    (cond (eqb (get_or bytes 1 255) 117 && eqb (get_or bytes 2 255) 123) (by_number bytes) (Err NotAnEscape)))
 
 -- the character of a label that bytes begin with
-unfoldable pub label_glyph : List ℕ → Decoded
+unfoldable pub label_glyph : List ℕ → Result Glyph GlyphError
 label_glyph bytes = cond (eqb (get_or bytes 0 255) 92) (unescaped bytes) (decoded bytes)

@@ -13,223 +13,225 @@ pub const SHEET_READ: usize = sheetdraft::MOST_WORDS + 2;
 
 pub const DRAFT_WORDS: usize = sheetdraft::MOST_WORDS + 3;
 
-// What stands behind a field's name.
+// A word of flags, and what is added to it.
+#[derive(Clone, Copy)]
+pub struct Flag(pub usize, pub u32);
+
+// What stands behind a field's name, and where it goes.
 #[derive(Clone, Copy)]
 pub enum Shape {
-    // as many numbers as the field has words
-    Numbers,
-    // one word of a few
-    Word(Choice),
-    // nothing
-    Nothing,
-    // a label in quotes
-    Label,
-    // points
-    Points,
+    // a number, into this word
+    Number(usize),
+    // two numbers, into this word and the next
+    Pair(usize),
+    // two numbers and a flag that they are there
+    FlaggedPair(usize, Flag),
+    // one word of a few, which adds the flag once for each word before it
+    Word(Choice, Flag),
+    // nothing: the field is the flag
+    Nothing(Flag),
+    // a label in quotes, its span into this word and the next, and a flag that it is there
+    Label(usize, Flag),
+    // points, their span into this word and the next
+    Points(usize),
     // the number of a thing of this kind
-    Thing(u32),
+    Thing(ElementKind),
     // a number, or the word fill
     Runs,
 }
 
-// A field of a record.
+impl Shape {
+    // The first word that a field of this shape gives, and how many; none where it gives bits of the flags alone.
+    pub fn words(self) -> Option<(usize, usize)> {
+        match self {
+            Shape::Number(place) => Some((place, 1)),
+            Shape::Pair(place) | Shape::FlaggedPair(place, _) => Some((place, 2)),
+            Shape::Word(_, _) | Shape::Nothing(_) => None,
+            Shape::Label(place, _) | Shape::Points(place) => Some((place, 2)),
+            Shape::Thing(_) => Some((layout::ELEMENT_KIND, 2)),
+            Shape::Runs => Some((layout::HEADER_RUNS, 1)),
+        }
+    }
+}
+
+// A field of a record: its name, and what stands behind it.
 #[derive(Clone, Copy)]
-pub struct Field {
-    // what stands behind its name
-    pub shape: Shape,
-    // the first word that it gives
-    pub place: usize,
-    // how many words it gives; none where it gives bits of the flags alone
-    pub words: usize,
-    // the word of flags that it adds to
-    pub flags: usize,
-    // what it adds there; where it is one word of a few, so much for each before it
-    pub bits: u32,
-}
+pub struct Field(pub &'static str, pub Shape);
 
-fn numbers(place: usize, words: usize) -> Field {
-    Field {
-        shape: Shape::Numbers,
-        place: place,
-        words: words,
-        flags: 0,
-        bits: 0,
-    }
-}
-
-fn choice(choice: Choice, flags: usize, step: u32) -> Field {
-    Field {
-        shape: Shape::Word(choice),
-        place: flags,
-        words: 0,
-        flags: flags,
-        bits: step,
-    }
-}
-
-fn flag(flags: usize, bit: u32) -> Field {
-    Field {
-        shape: Shape::Nothing,
-        place: flags,
-        words: 0,
-        flags: flags,
-        bits: bit,
-    }
-}
-
-fn label(start: usize, flags: usize, bit: u32) -> Field {
-    Field {
-        shape: Shape::Label,
-        place: start,
-        words: 2,
-        flags: flags,
-        bits: bit,
-    }
-}
-
-fn thing(kind: u32) -> Field {
-    Field {
-        shape: Shape::Thing(kind),
-        place: layout::ELEMENT_KIND,
-        words: 2,
-        flags: 0,
-        bits: 0,
-    }
-}
-
-fn sheet_field(number: usize) -> Field {
-    match number {
-        0 => numbers(layout::HEADER_WIDTH, 1),
-        1 => numbers(layout::HEADER_HEIGHT, 1),
-        2 => choice(
+static SHEET: [Field; 6] = [
+    Field("width", Shape::Number(layout::HEADER_WIDTH)),
+    Field("height", Shape::Number(layout::HEADER_HEIGHT)),
+    Field(
+        "policy",
+        Shape::Word(
             Choice::Policy,
-            layout::HEADER_FLAGS,
-            layout::AVOID_NODE_ROWS,
+            Flag(layout::HEADER_FLAGS, layout::AVOID_NODE_ROWS),
         ),
-        3 => choice(Choice::Dummies, layout::HEADER_FLAGS, layout::SHOW_DUMMIES),
-        4 => Field {
-            shape: Shape::Runs,
-            place: layout::HEADER_RUNS,
-            words: 1,
-            flags: 0,
-            bits: 0,
-        },
-        _ => choice(Choice::Elements, FILL_ELEMENTS, 1),
-    }
-}
+    ),
+    Field(
+        "dummies",
+        Shape::Word(
+            Choice::Dummies,
+            Flag(layout::HEADER_FLAGS, layout::SHOW_DUMMIES),
+        ),
+    ),
+    Field("runs", Shape::Runs),
+    Field(
+        "elements",
+        Shape::Word(Choice::Elements, Flag(FILL_ELEMENTS, 1)),
+    ),
+];
 
-fn node_field(number: usize) -> Field {
-    match number {
-        0 => numbers(layout::NODE_X, 1),
-        1 => numbers(layout::NODE_Y, 1),
-        2 => numbers(layout::NODE_WIDTH, 1),
-        3 => numbers(layout::NODE_HEIGHT, 1),
-        4 => choice(Choice::NodeKind, layout::NODE_FLAGS, layout::NODE_KIND_STEP),
-        5 => label(layout::NODE_LABEL_START, layout::NODE_FLAGS, 0),
-        _ => Field {
-            shape: Shape::Numbers,
-            place: layout::NODE_LOOP_X,
-            words: 2,
-            flags: layout::NODE_FLAGS,
-            bits: layout::SELF_LOOP,
-        },
-    }
-}
+static NODE: [Field; 7] = [
+    Field("x", Shape::Number(layout::NODE_X)),
+    Field("y", Shape::Number(layout::NODE_Y)),
+    Field("width", Shape::Number(layout::NODE_WIDTH)),
+    Field("height", Shape::Number(layout::NODE_HEIGHT)),
+    Field(
+        "kind",
+        Shape::Word(
+            Choice::NodeKind,
+            Flag(layout::NODE_FLAGS, layout::NODE_KIND_STEP),
+        ),
+    ),
+    Field(
+        "label",
+        Shape::Label(layout::NODE_LABEL_START, Flag(layout::NODE_FLAGS, 0)),
+    ),
+    Field(
+        "loop",
+        Shape::FlaggedPair(
+            layout::NODE_LOOP_X,
+            Flag(layout::NODE_FLAGS, layout::SELF_LOOP),
+        ),
+    ),
+];
 
-// What every edge may have.
-fn edge_field(number: usize) -> Field {
-    match number {
-        0 => numbers(layout::EDGE_FROM_X, 2),
-        1 => numbers(layout::EDGE_TO_X, 2),
-        2 => choice(Choice::Path, layout::EDGE_FLAGS, layout::PATH_STEP),
-        3 => choice(Choice::Flow, layout::EDGE_FLAGS, layout::FLOW_X),
-        4 => flag(layout::EDGE_FLAGS, layout::REVERSED),
-        5 => flag(layout::EDGE_FLAGS, layout::START_MARKER),
-        6 => flag(layout::EDGE_FLAGS, layout::END_MARKER),
-        7 => choice(Choice::Weight, layout::EDGE_FLAGS, layout::WEIGHT_STEP),
-        8 => label(
+// The last five are of some paths: several share a word, of which each path has one use.
+static EDGE: [Field; 16] = [
+    Field("from", Shape::Pair(layout::EDGE_FROM_X)),
+    Field("to", Shape::Pair(layout::EDGE_TO_X)),
+    Field(
+        "path",
+        Shape::Word(Choice::Path, Flag(layout::EDGE_FLAGS, layout::PATH_STEP)),
+    ),
+    Field(
+        "flow",
+        Shape::Word(Choice::Flow, Flag(layout::EDGE_FLAGS, layout::FLOW_X)),
+    ),
+    Field(
+        "reversed",
+        Shape::Nothing(Flag(layout::EDGE_FLAGS, layout::REVERSED)),
+    ),
+    Field(
+        "start",
+        Shape::Nothing(Flag(layout::EDGE_FLAGS, layout::START_MARKER)),
+    ),
+    Field(
+        "end",
+        Shape::Nothing(Flag(layout::EDGE_FLAGS, layout::END_MARKER)),
+    ),
+    Field(
+        "weight",
+        Shape::Word(
+            Choice::Weight,
+            Flag(layout::EDGE_FLAGS, layout::WEIGHT_STEP),
+        ),
+    ),
+    Field(
+        "label",
+        Shape::Label(
             layout::EDGE_LABEL_START,
-            layout::EDGE_FLAGS,
-            layout::LABEL_PRESENT,
+            Flag(layout::EDGE_FLAGS, layout::LABEL_PRESENT),
         ),
-        9 => numbers(layout::EDGE_COLOUR, 1),
-        10 => numbers(layout::EDGE_LABEL_COLOUR, 1),
-        _ => path_field(number),
-    }
-}
+    ),
+    Field("colour", Shape::Number(layout::EDGE_COLOUR)),
+    Field("label-colour", Shape::Number(layout::EDGE_LABEL_COLOUR)),
+    Field("bend", Shape::Number(layout::EDGE_A)),
+    Field("channel", Shape::Number(layout::EDGE_A)),
+    Field("span", Shape::Pair(layout::EDGE_B)),
+    Field("points", Shape::Points(layout::EDGE_A)),
+    Field("offset", Shape::Number(layout::EDGE_C)),
+];
 
-// What the paths of edges have: several share a word, of which each path has one use.
-fn path_field(number: usize) -> Field {
-    match number {
-        11 => numbers(layout::EDGE_A, 1),
-        12 => numbers(layout::EDGE_A, 1),
-        13 => numbers(layout::EDGE_B, 2),
-        14 => Field {
-            shape: Shape::Points,
-            place: layout::EDGE_A,
-            words: 2,
-            flags: 0,
-            bits: 0,
-        },
-        _ => numbers(layout::EDGE_C, 1),
-    }
-}
-
-fn subgraph_field(number: usize) -> Field {
-    match number {
-        0 => numbers(layout::SUBGRAPH_X, 1),
-        1 => numbers(layout::SUBGRAPH_Y, 1),
-        2 => numbers(layout::SUBGRAPH_WIDTH, 1),
-        3 => numbers(layout::SUBGRAPH_HEIGHT, 1),
-        4 => choice(Choice::Border, layout::SUBGRAPH_FLAGS, layout::BORDER_STEP),
-        5 => choice(
+static SUBGRAPH: [Field; 8] = [
+    Field("x", Shape::Number(layout::SUBGRAPH_X)),
+    Field("y", Shape::Number(layout::SUBGRAPH_Y)),
+    Field("width", Shape::Number(layout::SUBGRAPH_WIDTH)),
+    Field("height", Shape::Number(layout::SUBGRAPH_HEIGHT)),
+    Field(
+        "border",
+        Shape::Word(
+            Choice::Border,
+            Flag(layout::SUBGRAPH_FLAGS, layout::BORDER_STEP),
+        ),
+    ),
+    Field(
+        "position",
+        Shape::Word(
             Choice::Position,
-            layout::SUBGRAPH_FLAGS,
-            layout::INSIDE_BOTTOM,
+            Flag(layout::SUBGRAPH_FLAGS, layout::INSIDE_BOTTOM),
         ),
-        6 => label(layout::SUBGRAPH_LABEL_START, layout::SUBGRAPH_FLAGS, 0),
-        _ => numbers(layout::SUBGRAPH_COLOUR, 1),
-    }
-}
+    ),
+    Field(
+        "label",
+        Shape::Label(
+            layout::SUBGRAPH_LABEL_START,
+            Flag(layout::SUBGRAPH_FLAGS, 0),
+        ),
+    ),
+    Field("colour", Shape::Number(layout::SUBGRAPH_COLOUR)),
+];
 
-fn placed_field(number: usize) -> Field {
-    match number {
-        0 => numbers(layout::LABEL_EDGE, 1),
-        1 => numbers(layout::LABEL_X, 1),
-        2 => numbers(layout::LABEL_Y, 1),
-        3 => flag(layout::LABEL_FLAGS, layout::PLACEABLE),
-        _ => flag(layout::LABEL_FLAGS, layout::ROW_HAS_NODE),
-    }
-}
+static PLACED: [Field; 5] = [
+    Field("edge", Shape::Number(layout::LABEL_EDGE)),
+    Field("x", Shape::Number(layout::LABEL_X)),
+    Field("y", Shape::Number(layout::LABEL_Y)),
+    Field(
+        "placeable",
+        Shape::Nothing(Flag(layout::LABEL_FLAGS, layout::PLACEABLE)),
+    ),
+    Field(
+        "row-has-node",
+        Shape::Nothing(Flag(layout::LABEL_FLAGS, layout::ROW_HAS_NODE)),
+    ),
+];
 
-fn range_field(number: usize) -> Field {
-    match number {
-        0 => numbers(layout::RANGE_FIRST, 1),
-        1 => numbers(layout::RANGE_LAST, 1),
-        _ => numbers(layout::RANGE_WIDTH, 1),
-    }
-}
+static RANGE: [Field; 3] = [
+    Field("first", Shape::Number(layout::RANGE_FIRST)),
+    Field("last", Shape::Number(layout::RANGE_LAST)),
+    Field("width", Shape::Number(layout::RANGE_WIDTH)),
+];
 
-fn element_field(number: usize) -> Field {
-    match number {
-        0 => thing(image::element_kind_number(ElementKind::Node)),
-        1 => thing(image::element_kind_number(ElementKind::Edge)),
-        2 => thing(image::element_kind_number(ElementKind::Subgraph)),
-        _ => numbers(layout::ELEMENT_FIRST_ROW, 2),
-    }
-}
+static ELEMENT: [Field; 4] = [
+    Field("node", Shape::Thing(ElementKind::Node)),
+    Field("edge", Shape::Thing(ElementKind::Edge)),
+    Field("subgraph", Shape::Thing(ElementKind::Subgraph)),
+    Field("rows", Shape::Pair(layout::ELEMENT_FIRST_ROW)),
+];
 
-// The field of a record that has this number among its names.
-pub fn field_of(record: Record, number: usize) -> Field {
+// The fields that a record may have. Points and glyphs are in other records' fields, and have no record of their own.
+pub fn fields_of(record: Record) -> &'static [Field] {
     let Record::Of(kind) = record else {
-        return sheet_field(number);
+        return &SHEET;
     };
     match kind {
-        RecordKind::Node => node_field(number),
-        RecordKind::Edge => edge_field(number),
-        RecordKind::Subgraph => subgraph_field(number),
-        RecordKind::PlacedLabel => placed_field(number),
-        RecordKind::Range => range_field(number),
-        _ => element_field(number),
+        RecordKind::Node => &NODE,
+        RecordKind::Edge => &EDGE,
+        RecordKind::Subgraph => &SUBGRAPH,
+        RecordKind::PlacedLabel => &PLACED,
+        RecordKind::Range => &RANGE,
+        RecordKind::Element => &ELEMENT,
+        RecordKind::Point | RecordKind::Glyph => &[],
     }
+}
+
+// The field of a record that has this name, and its number among them.
+pub fn field_named(record: Record, word: &[u8]) -> Option<(usize, Field)> {
+    for (number, field) in fields_of(record).iter().enumerate() {
+        if field.0.as_bytes() == word {
+            return Some((number, *field));
+        }
+    }
+    None
 }

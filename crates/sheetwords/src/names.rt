@@ -1,8 +1,6 @@
-// The words of the text: records, their fields, and the words that a field may hold.
-use crate::token::end_of;
-use ground::Found;
+// The words of the text: records, and the words that a field may hold.
 use layout::RecordKind;
-use sheettext::{byte_at, part};
+use std::fmt;
 
 // What a line gives.
 #[derive(Clone, Copy)]
@@ -11,6 +9,43 @@ pub enum Record {
     Sheet,
     // a record of a table
     Of(RecordKind),
+}
+
+// The names of the records.
+pub static RECORDS: [(&str, Record); 7] = [
+    ("sheet", Record::Sheet),
+    ("node", Record::Of(RecordKind::Node)),
+    ("edge", Record::Of(RecordKind::Edge)),
+    ("subgraph", Record::Of(RecordKind::Subgraph)),
+    ("placed", Record::Of(RecordKind::PlacedLabel)),
+    ("range", Record::Of(RecordKind::Range)),
+    ("element", Record::Of(RecordKind::Element)),
+];
+
+impl Record {
+    // The record of this name.
+    pub fn named(word: &[u8]) -> Option<Record> {
+        let found = RECORDS.iter().find(|(name, _)| name.as_bytes() == word);
+        found.map(|(_, record)| *record)
+    }
+}
+
+impl fmt::Display for Record {
+    fn fmt<W: fmt::Write>(&self, f: &mut fmt::Formatter<W>) -> fmt::Result {
+        let Record::Of(kind) = self else {
+            return f.write_str("a sheet");
+        };
+        f.write_str(match kind {
+            RecordKind::Node => "a node",
+            RecordKind::Edge => "an edge",
+            RecordKind::Subgraph => "a subgraph",
+            RecordKind::PlacedLabel => "a placed label",
+            RecordKind::Element => "an element",
+            RecordKind::Point => "a point",
+            RecordKind::Glyph => "a character",
+            RecordKind::Range => "a range",
+        })
+    }
 }
 
 // A field that holds one word of a few.
@@ -36,121 +71,54 @@ pub enum Choice {
     Elements,
 }
 
-// Words in a row, with a bar between them: each stands for the number of those before it. An empty one is no word of a text.
-
-pub const RECORDS: [u8; 45] = *b"sheet|node|edge|subgraph|placed|range|element";
-
-pub const SHEET_FIELDS: [u8; 41] = *b"width|height|policy|dummies|runs|elements";
-
-pub const NODE_FIELDS: [u8; 32] = *b"x|y|width|height|kind|label|loop";
-
-pub const EDGE_FIELDS: [u8; 101] =
-    *b"from|to|path|flow|reversed|start|end|weight|label|colour|label-colour|bend|channel|span|points|offset";
-
-pub const SUBGRAPH_FIELDS: [u8; 45] = *b"x|y|width|height|border|position|label|colour";
-
-pub const PLACED_FIELDS: [u8; 31] = *b"edge|x|y|placeable|row-has-node";
-
-pub const RANGE_FIELDS: [u8; 16] = *b"first|last|width";
-
-pub const ELEMENT_FIELDS: [u8; 23] = *b"node|edge|subgraph|rows";
-
-pub const NODE_KINDS: [u8; 24] = *b"simple|boxed|blank|dummy";
-
-pub const PATHS: [u8; 58] = *b"direct|corner|side-channel|multi-segment|orthogonal|spline";
-
-pub const AXES: [u8; 3] = *b"y|x";
-
-// 0 is no weight
-pub const WEIGHTS: [u8; 20] = *b"|dashed|light|double";
-
-pub const BORDERS: [u8; 24] = *b"none|dashed|light|double";
-
-pub const POSITIONS: [u8; 10] = *b"top|bottom";
-
-pub const POLICIES: [u8; 25] = *b"geometric|avoid-node-rows";
-
-pub const DUMMIES: [u8; 12] = *b"hidden|shown";
-
-pub const LISTS: [u8; 11] = *b"listed|fill";
-
-// What stands between two of them.
-pub const BAR: u8 = b'|';
-
-// Whether two words are the same.
-pub fn same(one: &[u8], other: &[u8]) -> bool {
-    if one.len() != other.len() {
-        return false;
-    }
-    let mut k: usize = 0;
-    while k < one.len() {
-        if one[k] != byte_at(other, k) {
-            return false;
+impl Choice {
+    // Its words: each stands for the number of those before it. An empty one is no word of a text.
+    pub fn words(self) -> &'static [&'static str] {
+        match self {
+            Choice::NodeKind => &["simple", "boxed", "blank", "dummy"],
+            Choice::Path => &[
+                "direct",
+                "corner",
+                "side-channel",
+                "multi-segment",
+                "orthogonal",
+                "spline",
+            ],
+            Choice::Flow => &["y", "x"],
+            // 0 is no weight
+            Choice::Weight => &["", "dashed", "light", "double"],
+            Choice::Border => &["none", "dashed", "light", "double"],
+            Choice::Position => &["top", "bottom"],
+            Choice::Policy => &["geometric", "avoid-node-rows"],
+            Choice::Dummies => &["hidden", "shown"],
+            Choice::Elements => &["listed", "fill"],
         }
-        k += 1;
     }
-    true
+
+    // The number of one of its words.
+    pub fn number(self, word: &[u8]) -> Option<usize> {
+        self.words()
+            .iter()
+            .position(|known| known.as_bytes() == word)
+    }
 }
 
-// The number of the name that a word is.
-fn find(names: &[u8], word: &[u8]) -> Found {
-    let mut from: usize = 0;
-    let mut number: usize = 0;
-    while from < names.len() {
-        let end = end_of(names, from, BAR);
-        if same(part(names, from, end), word) {
-            return Found::At(number);
+// Names as a sentence has them: a comma between two, and `or` before the last one. An empty one is passed over.
+pub fn write_names<'a, T, W: fmt::Write, F: Fn(&T) -> &'a str>(
+    f: &mut fmt::Formatter<W>,
+    all: &[T],
+    name_of: F,
+) -> fmt::Result
+    requires { F.IsAlwaysCallable name_of }
+{
+    for (k, item) in all.iter().enumerate() {
+        let name = name_of(item);
+        let next = k + 1;
+        f.write_str(name)?;
+        if !name.is_empty() && next < all.len() {
+            let last = next + 1 == all.len();
+            f.write_str(if last { " or " } else { ", " })?;
         }
-        from = end + 1;
-        number += 1;
     }
-    Found::None
-}
-
-pub fn record_number(word: &[u8]) -> Found {
-    find(&RECORDS, word)
-}
-
-pub fn record_of(number: usize) -> Record {
-    match number {
-        0 => Record::Sheet,
-        1 => Record::Of(RecordKind::Node),
-        2 => Record::Of(RecordKind::Edge),
-        3 => Record::Of(RecordKind::Subgraph),
-        4 => Record::Of(RecordKind::PlacedLabel),
-        5 => Record::Of(RecordKind::Range),
-        _ => Record::Of(RecordKind::Element),
-    }
-}
-
-// The number of a field among its record's.
-pub fn field_number(record: Record, word: &[u8]) -> Found {
-    let Record::Of(kind) = record else {
-        return find(&SHEET_FIELDS, word);
-    };
-    match kind {
-        RecordKind::Node => find(&NODE_FIELDS, word),
-        RecordKind::Edge => find(&EDGE_FIELDS, word),
-        RecordKind::Subgraph => find(&SUBGRAPH_FIELDS, word),
-        RecordKind::PlacedLabel => find(&PLACED_FIELDS, word),
-        RecordKind::Range => find(&RANGE_FIELDS, word),
-        RecordKind::Element => find(&ELEMENT_FIELDS, word),
-        RecordKind::Point => Found::None,
-        RecordKind::Glyph => Found::None,
-    }
-}
-
-// The number of a word among those that a field may hold.
-pub fn choice_number(choice: Choice, word: &[u8]) -> Found {
-    match choice {
-        Choice::NodeKind => find(&NODE_KINDS, word),
-        Choice::Path => find(&PATHS, word),
-        Choice::Flow => find(&AXES, word),
-        Choice::Weight => find(&WEIGHTS, word),
-        Choice::Border => find(&BORDERS, word),
-        Choice::Position => find(&POSITIONS, word),
-        Choice::Policy => find(&POLICIES, word),
-        Choice::Dummies => find(&DUMMIES, word),
-        Choice::Elements => find(&LISTS, word),
-    }
+    Ok(())
 }

@@ -1,8 +1,6 @@
 // What stands on a line: words, labels in quotes, and its end.
 ghost use Rattle.std.specs.Prelude.{◌≤◌, length};
 
-use sheettext::byte_at;
-
 #[derive(Clone, Copy)]
 pub enum Kind {
     // bytes with no space, quote or number sign among them
@@ -15,129 +13,83 @@ pub enum Kind {
     End,
 }
 
-// A thing on a line, from one place to another, its quotes among it.
+// A thing on a line.
 #[derive(Clone, Copy)]
-pub struct Token {
+pub struct Token<'a> {
     // what it is
     pub kind: Kind,
-    // where it begins
-    pub start: usize,
-    // the place behind it
-    pub end: usize,
+    // its bytes, with the quotes of a label; none at the end of the line
+    pub bytes: &'a [u8],
+    // what stands behind it
+    pub rest: &'a [u8],
 }
 
 // Spaces, tabs, and what ends a line under Windows.
 fn is_space(byte: u8) -> bool {
-    match byte {
-        b' ' | b'\t' | b'\r' => true,
-        _ => false,
-    }
+    matches!(byte, b' ' | b'\t' | b'\r')
 }
 
 // What cannot stand in a word.
 fn ends_word(byte: u8) -> bool {
-    match byte {
-        b'#' | b'"' => true,
-        _ => is_space(byte),
-    }
+    matches!(byte, b'#' | b'"') || is_space(byte)
 }
 
-// The first place from here on that holds no space.
-fn past_spaces(line: &[u8], from: usize) -> usize {
-    let mut at = from;
-    while at < line.len() {
-        if !is_space(line[at]) {
-            return at;
+// The bytes before the first that is such, and those from it on.
+fn cut_before<F: Fn(u8) -> bool>(bytes: &[u8], stops: F) -> (&[u8], &[u8])
+    requires { F.IsAlwaysCallable stops }
+{
+    for (at, byte) in bytes.iter().enumerate() {
+        if stops(*byte) {
+            return bytes.split_at(at);
         }
-        at += 1;
     }
-    at
-}
-
-// Where the word that begins here ends.
-fn word_end(line: &[u8], from: usize) -> usize {
-    let mut at = from;
-    while at < line.len() {
-        if ends_word(line[at]) {
-            return at;
-        }
-        at += 1;
-    }
-    at
+    bytes.split_at(bytes.len())
 }
 
 // The label that begins with the quote here. What follows a backslash closes nothing.
-fn quoted(line: &[u8], start: usize) -> Token {
-    let mut at = start;
+fn quoted(line: &[u8]) -> Token<'_> {
     let mut open = false;
     let mut escaped = false;
-    while at < line.len() {
-        let byte = line[at];
-        at += 1;
+    for (at, byte) in line.iter().enumerate() {
         if escaped {
             escaped = false;
-        } else if byte == b'\\' {
+        } else if *byte == b'\\' {
             escaped = true;
-        } else if byte == b'"' {
+        } else if *byte == b'"' {
             if open {
-                return Token {
-                    kind: Kind::Quoted,
-                    start: start,
-                    end: at,
-                };
+                return cut(Kind::Quoted, line, at + 1);
             }
             open = true;
         }
     }
-    Token {
-        kind: Kind::Unclosed,
-        start: start,
-        end: at,
-    }
+    cut(Kind::Unclosed, line, line.len())
 }
 
-// The first thing on a line from a place on.
-pub fn next(line: &[u8], from: usize) -> Token {
-    let start = past_spaces(line, from);
-    let end = line.len();
-    if end <= start {
-        return Token {
-            kind: Kind::End,
-            start: end,
-            end: end,
-        };
-    }
-    match byte_at(line, start) {
-        b'#' => Token {
-            kind: Kind::End,
-            start: end,
-            end: end,
-        },
-        b'"' => quoted(line, start),
-        _ => Token {
-            kind: Kind::Word,
-            start: start,
-            end: word_end(line, start),
-        },
-    }
-}
-
-// The bytes of a thing.
-pub fn bytes(line: &[u8], token: Token) -> &[u8] {
-    sheettext::part(line, token.start, token.end)
-}
-
-// Where the part that begins at a place ends: at the first byte of this value, or with the last byte.
-pub fn end_of(bytes: &[u8], from: usize, stop: u8) -> usize
-    requires { from ≤ length bytes.now }
-    ensures { (from ≤ result) × (result ≤ length bytes.now) }
+// The first bytes of a line, so many of them, as a thing of this kind.
+fn cut(kind: Kind, line: &[u8], size: usize) -> Token<'_>
+    requires { size ≤ length line.now }
 {
-    let mut at = from;
-    while at < bytes.len() {
-        if bytes[at] == stop {
-            return at;
+    let (bytes, rest) = line.split_at(size);
+    Token { kind, bytes, rest }
+}
+
+// The first thing on a line.
+pub fn next(line: &[u8]) -> Token<'_> {
+    let (_, line) = cut_before(line, |byte| !is_space(byte));
+    match line.first() {
+        None | Some(b'#') => Token {
+            kind: Kind::End,
+            bytes: &[],
+            rest: &[],
+        },
+        Some(b'"') => quoted(line),
+        Some(_) => {
+            let (bytes, rest) = cut_before(line, ends_word);
+            Token {
+                kind: Kind::Word,
+                bytes,
+                rest,
+            }
         }
-        at += 1;
     }
-    at
 }

@@ -71,6 +71,7 @@ pub fn next_marked(marks: &[u8], kind: u32, from: usize, count: usize) -> usize
     ensures { (from ≤ result) × (result ≤ count) × Unmarked marks.now kind from result }
 {
     let mut k = from;
+    // groups are passed over whole, so that no range steps as this does
     while k < count {
         if is_marked(marks, kind, k) {
             return k;

@@ -5,7 +5,6 @@ use mathlib.Core.List.{List}
 use mathlib.Core.Path.{◌≡◌, refl, sym, ap, ◌∙◌}
 use lib.Dec.{eqb}
 use lib.ListN.{get_or}
-use borrow.Author.Tests.{eq-eqb, ne_eqb}
 use Rattle.ground.proofs.Each.{or_left, or_right}
 use Rattle.layout.specs.declared.Tables.{Tables}
 use Rattle.image.specs.declared.ElementKind.TheVariants as kind
@@ -19,20 +18,12 @@ use Rattle.rows.proofs.Spots.{touches_append}
 use Rattle.frame.specs.Subgraphs.{border_spots, subgraph_label_spots}
 use Rattle.things.specs.Things.{thing_touches, ranges_of, label_glyphs}
 use Rattle.window.specs.declared.Tint.{Tint}
-use Rattle.window.specs.Writes.{Canvas, tinted, keep_tint, colour_tint}
+use Rattle.window.specs.Writes.{Canvas, tinted, keep_tint}
 use Rattle.window.specs.Window.{ink_window}
 use Rattle.window.proofs.Theorems.{untouched}
 use Rattle.picture.specs.Writes.{border_tint, border_writes, subgraph_label_writes}
 use Rattle.stage.specs.Staged.{Staged, stage_left, Unmarked}
 use Rattle.stage.proofs.Laws.{unmarked_touches, stage_next}
-
--- "colour (0 keeps what is there)"
-
-pub tint_kept : (s : Subgraph) → s.colour ≡ 0 → keep_tint ≡ border_tint s
-tint_kept s e = rw (eq-eqb _ _ e)
-
-pub tint_set : (s : Subgraph) → (s.colour ≡ 0 → ⊥) → colour_tint s.colour ≡ border_tint s
-tint_set s n = rw (ne_eqb _ _ n)
 
 module _ (image : List ℕ) (ts : Tables) (v : Window) (ranges : List ℕ) (k : ℕ) (c : Canvas) where
   pub border_painted :

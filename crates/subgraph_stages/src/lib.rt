@@ -10,21 +10,15 @@ use frame_paint::subgraphs;
 use image::{ElementKind, Subgraph};
 use layout::Tables;
 use rows::Window;
-use window::{Lent, Paint, Tint};
+use window::{Lent, Tint};
 
 // "colour (0 keeps what is there)"
 fn border_tint(s: Subgraph) -> Tint
     ensures { result ≡ border_tint s }
 {
-    if s.colour == 0 {
-        return Tint {
-            colour: Paint::Keep,
-            stamp: Paint::Keep,
-        };
-    }
     Tint {
-        colour: Paint::Set(s.colour),
-        stamp: Paint::Keep,
+        colour: (s.colour != 0).then_some(s.colour),
+        stamp: None,
     }
 }
 
@@ -44,7 +38,7 @@ fn paint_border(
     requires { Staged image.now ts v marks.now ranges.now × Ready lent v cells.old colours.old stamps.old × (k < ts.subgraphs.count) }
     ensures { canvas_of lent cells.new colours.new stamps.new ≡ ink_window v ranges.now (border_writes image.now ts k) (canvas_of lent cells.old colours.old stamps.old) }
 {
-    let kind = image::element_kind_number(ElementKind::Subgraph);
+    let kind = u32::from(ElementKind::Subgraph);
     if stage::is_marked(marks, kind, k) {
         let table = ts.subgraphs;
         let s = image::subgraph_at(image, table, k);
@@ -69,15 +63,15 @@ fn paint_label(
     requires { Staged image.now ts v marks.now ranges.now × Ready lent v cells.old colours.old stamps.old × (k < ts.subgraphs.count) }
     ensures { canvas_of lent cells.new colours.new stamps.new ≡ ink_window v ranges.now (subgraph_label_writes image.now ts k) (canvas_of lent cells.old colours.old stamps.old) }
 {
-    let kind = image::element_kind_number(ElementKind::Subgraph);
+    let kind = u32::from(ElementKind::Subgraph);
     if stage::is_marked(marks, kind, k) {
         let table = ts.subgraphs;
         let s = image::subgraph_at(image, table, k);
         let span = s.label;
         let label = image::span_words(image, ts.glyphs, span);
         let tint = Tint {
-            colour: Paint::Keep,
-            stamp: Paint::Keep,
+            colour: None,
+            stamp: None,
         };
         subgraphs::paint_label(cells, colours, stamps, lent, ranges, v, s, label, tint);
     }
@@ -98,9 +92,10 @@ pub fn paint_borders(
     requires { Staged image.now ts v marks.now ranges.now × Ready lent v cells.old colours.old stamps.old }
     ensures { canvas_of lent cells.new colours.new stamps.new ≡ ink_window v ranges.now (borders image.now ts) (canvas_of lent cells.old colours.old stamps.old) }
 {
-    let kind = image::element_kind_number(ElementKind::Subgraph);
+    let kind = u32::from(ElementKind::Subgraph);
     let count = ts.subgraphs.count;
     let mut k: usize = 0;
+    // the marks say where to go on, and not a range
     while k < count {
         paint_border(image, ts, v, lent, ranges, marks, cells, colours, stamps, k);
         k = stage::next_marked(marks, kind, k + 1, count);
@@ -122,9 +117,10 @@ pub fn paint_labels(
     requires { Staged image.now ts v marks.now ranges.now × Ready lent v cells.old colours.old stamps.old }
     ensures { canvas_of lent cells.new colours.new stamps.new ≡ ink_window v ranges.now (subgraph_labels image.now ts) (canvas_of lent cells.old colours.old stamps.old) }
 {
-    let kind = image::element_kind_number(ElementKind::Subgraph);
+    let kind = u32::from(ElementKind::Subgraph);
     let count = ts.subgraphs.count;
     let mut k: usize = 0;
+    // the marks say where to go on, and not a range
     while k < count {
         paint_label(image, ts, v, lent, ranges, marks, cells, colours, stamps, k);
         k = stage::next_marked(marks, kind, k + 1, count);

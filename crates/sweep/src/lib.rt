@@ -87,9 +87,8 @@ fn take_on(
     ensures list_after { list.new ≡ fronted (take active list.old ++ reaching_from image.now ts top cursor result.cursor) list.old }
 {
     let count = ts.elements.count;
-    let mut k = cursor;
     let mut many = active;
-    while k < count {
+    for k in cursor..count {
         if begins_below(image, ts, end, k) {
             return Taken {
                 cursor: k,
@@ -98,10 +97,9 @@ fn take_on(
         }
         let wanted = reaches(image, ts, top, k);
         many = put_if(list, many, k as u32, wanted);
-        k += 1;
     }
     Taken {
-        cursor: k,
+        cursor: count,
         active: many,
     }
 }
@@ -111,11 +109,9 @@ fn mark_active(image: &[u32], ts: Tables, active: usize, list: &[u32], marks: &m
     requires { AllSmall ts × (active ≤ length list.now) }
     ensures { marks.new ≡ mark_each image.now ts (take active list.now) marks.old }
 {
-    let mut i: usize = 0;
-    while i < active {
+    for i in 0..active {
         let slot = slot_at(image, ts, ground::number(list[i]));
         selection::mark(marks, slot);
-        i += 1;
     }
 }
 
@@ -133,16 +129,14 @@ fn let_go(
     ensures list_after { list.new ≡ fronted (reaching image.now ts row (take active list.old)) list.old }
     ensures marks_after { marks.new ≡ unmark_each image.now ts (take active list.old) marks.old }
 {
-    let mut i: usize = 0;
     let mut kept: usize = 0;
-    while i < active {
+    for i in 0..active {
         let k = list[i];
         let element = ground::number(k);
         let slot = slot_at(image, ts, element);
         selection::unmark(marks, slot);
         let wanted = reaches(image, ts, row, element);
         kept = put_if(list, kept, k, wanted);
-        i += 1;
     }
     kept
 }

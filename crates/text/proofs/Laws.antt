@@ -9,6 +9,7 @@ use mathlib.Core.Path.{◌≡◌, refl, sym, ap, ◌∙◌}
 use lib.ListN.{length, take, drop, set, get_or, drop_of_length-le, length-take}
 use lib.Seq.{drop-cons, take-add}
 use borrow.Author.Tests.{le-leb, lt-leb}
+use Rattle.std.specs.Prelude.{Option, Some, None}
 use Rattle.ground.proofs.Order.{by_order}
 use Rattle.glyph.specs.Width.{width_of}
 use Rattle.glyph.specs.Fitting as glyph
@@ -18,8 +19,6 @@ use Rattle.rows.specs.Window.{in_window}
 use Rattle.rows.specs.Spots.{Spot, at}
 use Rattle.rows.specs.Spots as spot
 use Rattle.window.specs.declared.Lent.{Lent}
-use Rattle.window.specs.declared.Paint.{Paint}
-use Rattle.window.specs.declared.Paint.TheVariants.{Keep, Set}
 use Rattle.window.specs.declared.Tint.{Tint}
 use Rattle.window.specs.Writes.{Write, Canvas, tinted, ink_on, columns_of, fill, paint_on, ink_cells, ink_colours, ink_stamps}
 use Rattle.window.specs.Window.{row_start, on_part, on_row, window_after, ink_window, plane_of, canvas_of}
@@ -40,15 +39,15 @@ fill_add value x (suc m) n row =
     let d : suc m + n ≡ suc (m + n) = omega arith in
     rw (e, d) (fill_add value (suc x) m n (set row x value))
 
-paint_add : (paint : Paint) (x m n : ℕ) (row : List ℕ) → paint_on paint (x + m) n (paint_on paint x m row) ≡ paint_on paint x (m + n) row
+paint_add : (paint : Option ℕ) (x m n : ℕ) (row : List ℕ) → paint_on paint (x + m) n (paint_on paint x m row) ≡ paint_on paint x (m + n) row
 unfolding paint_on
-paint_add Keep x m n row = refl
-paint_add (Set value) x m n row = fill_add value x m n row
+paint_add None x m n row = refl
+paint_add (Some value) x m n row = fill_add value x m n row
 
-paint_none : (paint : Paint) (x : ℕ) (row : List ℕ) → row ≡ paint_on paint x 0 row
+paint_none : (paint : Option ℕ) (x : ℕ) (row : List ℕ) → row ≡ paint_on paint x 0 row
 unfolding paint_on fill
-paint_none Keep x row = refl
-paint_none (Set value) x row = refl
+paint_none None x row = refl
+paint_none (Some value) x row = refl
 
 module _ (ranges : List ℕ) (y : ℕ) (tint : Tint) where
   abbrev writes : ℕ → List ℕ → List Write

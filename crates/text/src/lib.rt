@@ -21,12 +21,9 @@ fn glyphs_in(row: &mut [u32], ranges: &[u32], x: usize, glyphs: &[u32]) -> usize
     ensures row_after { row.new ≡ text_cells ranges.now x glyphs.now row.old }
 {
     let mut column = x;
-    let mut k: usize = 0;
-    while k < glyphs.len() {
-        let ch = glyphs[k];
-        row::text(row, ranges, column, ch);
-        column += ground::number(glyph::char_width(ranges, ch));
-        k += 1;
+    for ch in glyphs {
+        row::text(row, ranges, column, *ch);
+        column += ground::number(glyph::char_width(ranges, *ch));
     }
     column
 }
@@ -81,15 +78,13 @@ fn count_until(ranges: &[u32], close: usize, x: usize, glyphs: &[u32]) -> usize
     ensures { (result ≤ length glyphs.now) × (take result glyphs.now ≡ glyphs_until ranges.now close x glyphs.now) }
 {
     let mut column = x;
-    let mut k: usize = 0;
-    while k < glyphs.len() {
-        column += ground::number(glyph::char_width(ranges, glyphs[k]));
+    for (k, ch) in glyphs.iter().enumerate() {
+        column += ground::number(glyph::char_width(ranges, *ch));
         if close < column {
             return k;
         }
-        k += 1;
     }
-    k
+    glyphs.len()
 }
 
 // "glyphs until the first that would reach the closing column"

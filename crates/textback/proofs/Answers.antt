@@ -6,23 +6,22 @@ use lib.Dec.{eqb}
 use lib.ListN.{length, take, drop}
 use lib.Seq.{take_at}
 use borrow.Author.Tests.{eqb-true, eqb-false}
+use Rattle.std.specs.Prelude.{Ok, Err}
 use Rattle.ground.specs.Each.{every}
 use Rattle.ground.specs.Judged.{Judged}
 use Rattle.ground.proofs.Each.{by_bool}
-use Rattle.refusals.specs.declared.Verdict.{Verdict}
-use Rattle.refusals.specs.declared.Verdict.TheVariants.{Passed, Refused}
-use Rattle.refusals.specs.FirstBroken.{first_broken}
+use Rattle.refusals.specs.FirstBroken.{Verdict, Passed, Refused, first_broken}
 use Rattle.refusals.specs.Rules.{checked}
 use Rattle.refusals.proofs.FirstBroken.{and_then, broken_append}
 use Rattle.picture.specs.Painted.{band_rules, paint_rules, afterwards}
-use Rattle.picture.proofs.Answers.{no_code, band_verdict, as_checked, passed_accepted}
+use Rattle.picture.proofs.Answers.{no_code, band_verdict, as_checked, passed_accepted, given_code}
 use Rattle.painttext.specs.declared.Written.{Written}
 use Rattle.painttext.specs.PaintedText.{output_rules, written_verdict, written_of}
 
 -- where two verdicts one after the other pass, the first does
 first_passes : (v w : Verdict) → and_then v w ≡ Passed → v ≡ Passed
-first_passes Passed w e = refl
-first_passes (Refused code place) w e = e
+first_passes (Ok passed) w e = refl
+first_passes (Err refusal) w e = e
 
 module _ (image : List ℕ) (first rows : ℕ) (lent : List Judged) (wanted : ℕ) (out : List ℕ) where
   abbrev verdict : Verdict
@@ -47,7 +46,7 @@ module _ (image : List ℕ) (first rows : ℕ) (lent : List Judged) (wanted : �
       (λ n.
       let some = eqb-false (checked image).code 0 n in
       let r = refused some in
-      some (cc))
+      some (ap given_code (sym r ∙ e)))
 
   -- The answer has code 0 only where all rules are kept.
   pub code_passed : (bytes : ℕ) → (written_of verdict bytes).code ≡ 0 → verdict ≡ Passed
@@ -55,8 +54,8 @@ module _ (image : List ℕ) (first rows : ℕ) (lent : List Judged) (wanted : �
   code_passed bytes e = by verdict refl e
     where
       by : (v : Verdict) → verdict ≡ v → (written_of v bytes).code ≡ 0 → verdict ≡ Passed
-      by Passed same h = same
-      by (Refused code place) same h = absurd (never_zero place (same ∙ ap (λ (n : ℕ). Refused n place) h))
+      by (Ok passed) same h = same
+      by (Err refusal) same h = absurd (never_zero refusal.place (same ∙ ap (λ (n : ℕ). Refused n refusal.place) h))
 
   pub passed_checked : verdict ≡ Passed → (checked image).code ≡ 0
   passed_checked p =

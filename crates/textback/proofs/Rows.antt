@@ -26,8 +26,7 @@ use Rattle.whole.proofs.Pairs.{lead}
 use Rattle.whole.proofs.Columns.{PairedFrom, from_start, from_next}
 use Rattle.sheettext.specs.Scalars.{is_scalar}
 use Rattle.sheettext.proofs.Scalars.{below_surrogates}
-use Rattle.shapes.specs.declared.Shape.{Shape}
-use Rattle.shapes.specs.declared.Shape.TheVariants.{Nothing, Character}
+use Rattle.std.specs.Prelude.{Option, None, Some}
 use Rattle.shapes.specs.Shapes.{stroke_shape, marker_shape, shape_of}
 use Rattle.shapes.proofs.Laws.{stroke_bound, marker_bound}
 use Rattle.utf8.specs.Utf8.{utf8}
@@ -40,10 +39,10 @@ use Rattle.textback.proofs.Reading.{clear, ended}
 
 -- The bytes.
 
-shape_text_lem : (s : Shape) → each (characters_for s) utf8 ≡ shape_text s
+shape_text_lem : (s : Option ℕ) → each (characters_for s) utf8 ≡ shape_text s
 unfolding each shape_text
-shape_text_lem Nothing = refl
-shape_text_lem (Character ch) = append-nil (utf8 ch)
+shape_text_lem None = refl
+shape_text_lem (Some ch) = append-nil (utf8 ch)
 
 cells_text : (row : List ℕ) → each (row_characters row) utf8 ≡ each row cell_text
 unfolding each cell_text cell_characters
@@ -64,7 +63,7 @@ rows_text row (y ∷ ys) = each_append utf8 (ended (row_characters (row y))) _ �
 low_clear : (ch : ℕ) → 0x20 ≤ ch → ch < 0xD800 → clear ch ≡ true
 low_clear ch h l = and_both (sym (below_surrogates ch l)) (le-leb 0x20 ch h)
 
-pub parts_clear : (p : Parts) (ch : ℕ) → ((t : ℕ) → p ≡ Text t → clear t ≡ true) → shape_of p ≡ Character ch → clear ch ≡ true
+pub parts_clear : (p : Parts) (ch : ℕ) → ((t : ℕ) → p ≡ Text t → clear t ≡ true) → shape_of p ≡ Some ch → clear ch ≡ true
 unfolding shape_of
 parts_clear Empty ch texts e = let same : ch ≡ 0x20 = cc in rw same (low_clear 0x20 (omega arith) (omega arith))
 parts_clear (Text t) ch texts e = let same : ch ≡ t = cc in rw same (texts t refl)
@@ -78,12 +77,12 @@ parts_clear (Marker kind dir dashed) ch texts e =
 
 -- every character that a row is written as
 abbrev pub AllClear : List ℕ → Type 0
-AllClear row = (x ch : ℕ) → shape_of (parts_at row x) ≡ Character ch → clear ch ≡ true
+AllClear row = (x ch : ℕ) → shape_of (parts_at row x) ≡ Some ch → clear ch ≡ true
 
-shape_clear : (s : Shape) → ((ch : ℕ) → s ≡ Character ch → clear ch ≡ true) → every (characters_for s) clear ≡ true
+shape_clear : (s : Option ℕ) → ((ch : ℕ) → s ≡ Some ch → clear ch ≡ true) → every (characters_for s) clear ≡ true
 unfolding every
-shape_clear Nothing h = refl
-shape_clear (Character ch) h = and_both (h ch refl) refl
+shape_clear None h = refl
+shape_clear (Some ch) h = and_both (h ch refl) refl
 
 pub row_clear : (row : List ℕ) → AllClear row → every (row_characters row) clear ≡ true
 unfolding each every cell_characters

@@ -8,7 +8,7 @@ use lib.ListN.{take}
 use Rattle.ground.specs.Each.{numbers}
 use Rattle.ground.proofs.Each.{each_numbers}
 use Rattle.glyph.specs.Fitting.{columns_of}
-use Rattle.refusals.specs.declared.Verdict.TheVariants.{Passed}
+use Rattle.refusals.specs.FirstBroken.{Passed}
 use Rattle.refusals.specs.Rules.{checked}
 use Rattle.refusals.proofs.Theorems.{accepted_widths}
 use Rattle.picture.specs.Picture.{width, picture_row}

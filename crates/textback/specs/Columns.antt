@@ -1,19 +1,17 @@
 -- Request #112, of the text: "the columns of #101's text sum to the sheet's width in every row, what #101 writes for a stroke or marker cell counted as 1".
-use Rattle.std.specs.Prelude.{ℕ, ◌+◌, List, [], ◌∷◌, length, get_or, take, drop}
+use Rattle.std.specs.Prelude.{ℕ, ◌+◌, List, [], ◌∷◌, length, get_or, take, drop, Option, None, Some}
 use Rattle.ground.specs.Each.{each}
 use Rattle.cell.specs.declared.Parts.{Parts}
 use Rattle.cell.specs.declared.Parts.TheVariants.{Empty, Text, Continuation, Stroke, Marker}
 use Rattle.cell.specs.OneCell.{read}
 use Rattle.glyph.specs.Fitting.{columns_of}
-use Rattle.shapes.specs.declared.Shape.{Shape}
-use Rattle.shapes.specs.declared.Shape.TheVariants.{Nothing, Character}
 use Rattle.shapes.specs.Shapes.{shape_of}
 use Rattle.textback.specs.ReadBack.{lines_read}
 
 -- the characters that a cell is written as: one, or none for a continuation
-abbrev pub characters_for : Shape → List ℕ
-characters_for Nothing = []
-characters_for (Character ch) = ch ∷ []
+abbrev pub characters_for : Option ℕ → List ℕ
+characters_for None = []
+characters_for (Some ch) = ch ∷ []
 
 unfoldable pub cell_characters : ℕ → List ℕ
 cell_characters w = characters_for (shape_of (read w))

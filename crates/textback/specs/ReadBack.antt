@@ -1,35 +1,31 @@
 -- "Reading the plain text back, columns counted, gives the same characters per column under the same widths, where no range covers a character that is
 -- written for a stroke or marker."
-use Rattle.std.specs.Prelude.{ℕ, zero, suc, ◌+◌, ◌≤◌, ◌<◌, cond, List, [], ◌∷◌, map, eqb, length, drop}
+use Rattle.std.specs.Prelude.{ℕ, zero, suc, ◌+◌, ◌≤◌, ◌<◌, cond, List, [], ◌∷◌, map, eqb, length, drop, Option, None, Some, Result, Ok, Err}
 use Rattle.ground.specs.Each.{numbers, each}
 use Rattle.cell.specs.declared.Parts.{Parts}
 use Rattle.cell.specs.declared.Parts.TheVariants.{Empty, Text, Continuation, Stroke, Marker}
 use Rattle.cell.specs.OneCell.{read}
 use Rattle.glyph.specs.Width.{width_of, range_count, first_of, last_of}
-use Rattle.sheettext.specs.declared.Decoded.{Decoded}
-use Rattle.sheettext.specs.declared.Decoded.TheVariants.{Glyph, NotUtf8, NotAnEscape}
+use Rattle.sheettext.specs.declared.Glyph.{Glyph}
+use Rattle.sheettext.specs.declared.GlyphError.{GlyphError}
 use Rattle.sheettext.specs.Scalars.{decoded}
 use Rattle.picture.specs.Characters.{parts_at}
 use Rattle.picture.specs.Picture.{picture_row}
 use Rattle.whole.specs.Whole.{ranges_in}
-use Rattle.shapes.specs.declared.Shape.{Shape}
-use Rattle.shapes.specs.declared.Shape.TheVariants.{Nothing, Character}
 use Rattle.shapes.specs.Shapes.{stroke_shape, marker_shape, shape_of}
 use Rattle.rowtext.specs.Text.{feed}
 
 -- "Reading the plain text back": its characters, as `sheetmake` reads them. A byte that begins no character in UTF-8 reads as 110000, which is none of
 -- Unicode's.
 
-abbrev pub character_read : Decoded → ℕ
-character_read (Glyph value size) = value
-character_read NotUtf8 = 0x110000
-character_read NotAnEscape = 0x110000
+abbrev pub character_read : Result Glyph GlyphError → ℕ
+character_read (Ok ch) = ch.value
+character_read (Err _) = 0x110000
 
 -- the bytes that it takes
-abbrev pub bytes_read : Decoded → ℕ
-bytes_read (Glyph value size) = size
-bytes_read NotUtf8 = 1
-bytes_read NotAnEscape = 1
+abbrev pub bytes_read : Result Glyph GlyphError → ℕ
+bytes_read (Ok ch) = ch.size
+bytes_read (Err _) = 1
 
 -- the characters of a text, at most so many
 unfoldable pub characters_of : ℕ → List ℕ → List ℕ
@@ -73,9 +69,9 @@ read_back ranges bytes = map (λ line. each line (filled_by ranges)) (lines_read
 
 -- "the same characters per column": what is written for a cell stands in its column
 
-abbrev pub cell_column : Shape → Column
-cell_column Nothing = goes_on
-cell_column (Character ch) = begins ch
+abbrev pub cell_column : Option ℕ → Column
+cell_column None = goes_on
+cell_column (Some ch) = begins ch
 
 -- the columns of a row of cells, one for each cell
 abbrev pub row_columns : List ℕ → List Column

@@ -1,4 +1,5 @@
 -- Laws over plain values, which the functions' proofs cite: what each thing touches, and the runs edge by edge.
+use Rattle.std.specs.Prelude.{Option}
 use native.Mathlib.Omega.{arith}
 use Prim.Native.Nat.{ℕ, ◌+◌, ◌-◌, ◌*◌, ◌≤◌, ◌<◌}
 use mathlib.Core.Bool.{Bool}
@@ -40,7 +41,7 @@ shown image h e = rw e
 
 -- The rows that each thing touches, as the code finds them.
 
-module _ (image : List ℕ) (ts : Tables) (k : ℕ) (sheet : Window) (touched : Rows) (p : sheet ≡ sheet_of image) where
+module _ (image : List ℕ) (ts : Tables) (k : ℕ) (sheet : Window) (touched : Option Rows) (p : sheet ≡ sheet_of image) where
   pub node_touched :
       (show : Bool) (n : Node) → show ≡ (header_of image).show_dummies → n ≡ node_at image ts.nodes k → touched ≡ node_rows sheet show n →
       Touched kind.Node image ts k touched
@@ -69,7 +70,7 @@ edge_reaches image ts k sheet e points r small p q s x = record {
 
 -- the kind that a thing is of
 pub of_kind :
-    (kind own : ElementKind) (image : List ℕ) (ts : Tables) (k : ℕ) (touched : Rows) → kind ≡ own → Touched own image ts k touched → Touched kind image ts k touched
+    (kind own : ElementKind) (image : List ℕ) (ts : Tables) (k : ℕ) (touched : Option Rows) → kind ≡ own → Touched own image ts k touched → Touched kind image ts k touched
 of_kind kind own image ts k touched e t = rw e t
 
 -- The runs edge by edge: those of the edges before k, and those from it on.

@@ -1,5 +1,5 @@
 -- For the proofs alone: what the code finds of a thing.
-use Rattle.std.specs.Prelude.{ℕ, ◌≤◌, ◌<◌, List, ◌≡◌}
+use Rattle.std.specs.Prelude.{ℕ, ◌≤◌, ◌<◌, List, ◌≡◌, Option}
 use Rattle.glyph.specs.Width.{width_of}
 use Rattle.layout.specs.declared.Tables.{Tables}
 use Rattle.image.specs.declared.ElementKind.{ElementKind}
@@ -14,7 +14,7 @@ abbrev pub Bracket : List ℕ → Tables → Type 0
 Bracket image ts = 0 < width_of (ranges_of image ts) 0x5B
 
 -- rows are those that thing k of a kind touches, from the first to the last (for the bracket's sake where that has a width)
-pub record Touched (kind : ElementKind) (image : List ℕ) (ts : Tables) (k : ℕ) (r : Rows) : Type 0 where
+pub record Touched (kind : ElementKind) (image : List ℕ) (ts : Tables) (k : ℕ) (r : Option Rows) : Type 0 where
   pub rows : Bracket image ts → r ≡ touched_rows (sheet_of image) (thing_touches kind image ts k)
 
 -- what edge k touches, and its runs

@@ -26,7 +26,13 @@ pub fn sheet_of(image: &[u32]) -> Window
 }
 
 // The rows of the sheet that node k touches, from the first to the last.
-pub fn node_touched(image: &[u32], ts: Tables, sheet: Window, show_dummies: bool, k: usize) -> Rows
+pub fn node_touched(
+    image: &[u32],
+    ts: Tables,
+    sheet: Window,
+    show_dummies: bool,
+    k: usize,
+) -> Option<Rows>
     requires { AllSmall ts × (k < 4294967296) × (sheet ≡ sheet_of image.now) × (show_dummies ≡ (header_of image.now).show_dummies) }
     ensures { Touched kind.Node image.now ts k result }
 {
@@ -46,7 +52,7 @@ pub fn edge_reach(image: &[u32], ts: Tables, sheet: Window, k: usize) -> Reach
 }
 
 // The rows of the sheet that subgraph k touches, from the first to the last.
-pub fn subgraph_touched(image: &[u32], ts: Tables, sheet: Window, k: usize) -> Rows
+pub fn subgraph_touched(image: &[u32], ts: Tables, sheet: Window, k: usize) -> Option<Rows>
     requires { AllSmall ts × (k < 4294967296) × (sheet ≡ sheet_of image.now) }
     ensures { Touched kind.Subgraph image.now ts k result }
 {
@@ -56,7 +62,7 @@ pub fn subgraph_touched(image: &[u32], ts: Tables, sheet: Window, k: usize) -> R
 }
 
 // The rows of the sheet that a thing touches, from the first to the last.
-pub fn touched_rows(kind: ElementKind, image: &[u32], ts: Tables, k: usize) -> Rows
+pub fn touched_rows(kind: ElementKind, image: &[u32], ts: Tables, k: usize) -> Option<Rows>
     requires { AllSmall ts × (k < 4294967296) }
     ensures { Touched kind image.now ts k result }
 {
@@ -83,11 +89,9 @@ pub fn run_count(image: &[u32], ts: Tables) -> usize
     let edges = ts.edges;
     let count = edges.count;
     let mut total: usize = 0;
-    let mut k: usize = 0;
-    while k < count {
+    for k in 0..count {
         let edge = edge_reach(image, ts, sheet, k);
         total += edge.runs;
-        k += 1;
     }
     total
 }

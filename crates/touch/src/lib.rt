@@ -9,25 +9,25 @@ use flow::{Piece, Reach};
 use rows::{Rows, Window};
 
 // The rows strictly between two rows.
-pub fn vertical_rows(window: Window, from: usize, to: usize) -> Rows
+pub fn vertical_rows(window: Window, from: usize, to: usize) -> Option<Rows>
     ensures { result ≡ vertical_rows window from to }
 {
     let low = ground::min(from, to);
     let high = ground::max(from, to);
     if high - low < 2 {
-        return Rows::None;
+        return None;
     }
     window.clip(low + 1, high - 1)
 }
 
 // A row, if a column lies strictly between two.
-pub fn horizontal_rows(window: Window, row: usize, from: usize, to: usize) -> Rows
+pub fn horizontal_rows(window: Window, row: usize, from: usize, to: usize) -> Option<Rows>
     ensures { result ≡ horizontal_rows window row from to }
 {
     let low = ground::min(from, to);
     let high = ground::max(from, to);
     if high - low < 2 {
-        return Rows::None;
+        return None;
     }
     window.clip(row, row)
 }
@@ -46,18 +46,17 @@ pub fn no_reach() -> Reach
     ensures { result ≡ no_reach }
 {
     Reach {
-        rows: Rows::None,
+        rows: None,
         runs: 0,
     }
 }
 
 // What is reached with rows more.
-pub fn with_rows(reach: Reach, more: Rows) -> Reach
+pub fn with_rows(reach: Reach, more: Option<Rows>) -> Reach
     ensures { (result ≡ with_rows reach more) × (result.runs ≡ reach.runs) }
 {
-    let rows = reach.rows;
     Reach {
-        rows: rows.join(more),
+        rows: rows::join(reach.rows, more),
         runs: reach.runs,
     }
 }

@@ -1,10 +1,11 @@
 -- Bytes written from a place on, one piece after the other, over plain variables.
 use native.Mathlib.Omega.{arith}
-use Prim.Native.Nat.{ℕ, ◌+◌, ◌≤◌}
+use native.Mathlib.Numerals.{add-one}
+use Prim.Native.Nat.{ℕ, ◌+◌, ◌≤◌, ◌<◌}
 use mathlib.Core.Path.{◌≡◌, refl, sym, ap, ◌∙◌}
 use mathlib.Core.List.{List, [], ◌∷◌, ◌++◌, append_assoc}
-use lib.ListN.{length, set, take, drop, length-append, take-append-drop}
-use lib.Seq.{sets, sets-eq, take_at, drop-drop, drop-append-add, length-take-le}
+use lib.ListN.{length, get_or, set, take, drop, length-append, take-append-drop}
+use lib.Seq.{sets, sets-eq, take_at, take-suc, drop-drop, drop-append-add, length-take-le}
 use Rattle.utf8.specs.Utf8.{written_at}
 
 module _ (out : List ℕ) (at : ℕ) where
@@ -54,6 +55,20 @@ put_stored at text start fits = sets-eq text start at fits ∙ append_assoc (tak
 -- one byte
 pub put_byte : (at byte : ℕ) (start : List ℕ) → at + 1 ≤ length start → Put at (byte ∷ []) start (at + 1) (set start at byte)
 put_byte at byte start h = (refl, put_stored at (byte ∷ []) start h)
+
+-- A turn of the loop over bytes stores one of them.
+
+pub no_byte_yet : (bytes start : List ℕ) (at : ℕ) → start ≡ written_at at (take 0 bytes) start
+no_byte_yet bytes start at = (put_nothing at start [] refl).1
+
+module _ (bytes start out : List ℕ) (at k : ℕ) (i : out ≡ written_at at (take k bytes) start) where
+  pub byte_more :
+      k < length bytes → at + length bytes ≤ length start → length out ≡ length start →
+      set out (at + k) (get_or bytes k 0) ≡ written_at at (take (k + 1) bytes) start
+  byte_more h fits same =
+      let long : at + k ≡ at + length (take k bytes) = ap (λ (n : ℕ). at + n) (sym (length-take-le k bytes (omega arith))) in
+      rw (add-one k, take-suc bytes k 0 h)
+      (put_both at (at + k) (at + k + 1) (take k bytes) (get_or bytes k 0 ∷ []) start out _ (omega arith) (long, i) (put_byte (at + k) (get_or bytes k 0) out (omega arith))).1
 
 -- The room for a text is room for its pieces.
 module _ (at room : ℕ) (one more : List ℕ) (fits : at + length (one ++ more) ≤ room) where

@@ -9,7 +9,7 @@ use Rattle.glyph.specs.Ranges as fixed
 use Rattle.layout.specs.Tables.{tables_of}
 use Rattle.canvas.specs.Row.{space, is_continuation}
 use Rattle.canvas.proofs.Kept.{CodePoint, AnyStroke, KeptByInk}
-use Rattle.refusals.specs.declared.Verdict.TheVariants.{Passed}
+use Rattle.refusals.specs.FirstBroken.{Passed}
 use Rattle.refusals.specs.Rules.{checked}
 use Rattle.refusals.proofs.Theorems.{accepted_iff, accepted_widths}
 use Rattle.picture.specs.Picture.{width, picture_row}

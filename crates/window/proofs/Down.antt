@@ -3,17 +3,17 @@ use native.Mathlib.Omega.{arith}
 use Prim.Native.Nat.{ℕ, ◌+◌, ◌-◌, ◌*◌, ◌≤◌, ◌<◌, min, max}
 use mathlib.Core.List.{List, []}
 use mathlib.Core.Path.{◌≡◌, refl, sym, ◌∙◌}
+use Rattle.std.specs.Prelude.{Option, Some}
 use Rattle.ground.proofs.Turns.{turns_again, turns_rest, turns_start}
 use Rattle.rows.specs.declared.Window.{Window}
 use Rattle.window.specs.declared.Lent.{Lent}
 use Rattle.window.specs.declared.Lent.TheVariants.{Cells, All}
-use Rattle.window.specs.declared.Paint.{Paint}
-use Rattle.window.specs.declared.Paint.TheVariants.{Keep, Set}
 use Rattle.window.specs.Writes.{fill, paint_on}
 use Rattle.window.specs.Window.{on_part, on_row, plane_of}
 use Rattle.window.specs.Computed.{on_rows}
 use Rattle.window.proofs.Parts.{none}
 use Rattle.window.proofs.Rows.{within, above, below, on_row_out, on_row_length, on_row_same, paint_keeps}
+use Rattle.window.proofs.Fills.{nothing}
 use Rattle.window.proofs.Laws.{row_done}
 
 -- a window of three numbers: what a loop's invariant can name
@@ -69,14 +69,14 @@ module _ (v : Window) (change : ℕ → List ℕ → List ℕ) where
 
 -- What is painted: nothing, or a value.
 
-module _ (v : Window) (x low high : ℕ) (paint : Paint) (plane : List ℕ) where
-  pub down_keep : paint ≡ Keep → plane ≡ on_rows v low high (λ y. paint_on paint x 1) plane
+module _ (v : Window) (x low high : ℕ) (paint : Option ℕ) (plane : List ℕ) where
+  pub down_keep : ((value : ℕ) → paint ≡ Some value → ⊥) → plane ≡ on_rows v low high (λ y. paint_on paint x 1) plane
   unfolding paint_on
-  down_keep e = rw e (rows_idle v (λ y row. row) low high plane (λ y. on_row_same v y (λ row. row) plane (λ row. refl)))
+  down_keep not_some = rw (nothing paint not_some) (rows_idle v (λ y row. row) low high plane (λ y. on_row_same v y (λ row. row) plane (λ row. refl)))
 
   pub down_set :
       (value : ℕ) (after : List ℕ) →
-      paint ≡ Set value →
+      paint ≡ Some value →
       after ≡ on_rows v low high (λ y. fill value x 1) plane →
       after ≡ on_rows v low high (λ y. paint_on paint x 1) plane
   unfolding paint_on
@@ -84,7 +84,7 @@ module _ (v : Window) (x low high : ℕ) (paint : Paint) (plane : List ℕ) wher
 
 -- a plane that is not lent stays away
 pub down_absent :
-    (lent : Lent) (v : Window) (x low high : ℕ) (paint : Paint) (before after : List ℕ) →
+    (lent : Lent) (v : Window) (x low high : ℕ) (paint : Option ℕ) (before after : List ℕ) →
     lent ≡ Cells →
     plane_of lent after ≡ on_rows v low high (λ y. paint_on paint x 1) (plane_of lent before)
 unfolding plane_of
@@ -95,7 +95,7 @@ down_absent lent v x low high paint before after e =
 
 -- one that is lent is its buffer
 pub down_present :
-    (lent : Lent) (v : Window) (x low high : ℕ) (paint : Paint) (before after : List ℕ) →
+    (lent : Lent) (v : Window) (x low high : ℕ) (paint : Option ℕ) (before after : List ℕ) →
     lent ≡ All →
     after ≡ on_rows v low high (λ y. paint_on paint x 1) before →
     plane_of lent after ≡ on_rows v low high (λ y. paint_on paint x 1) (plane_of lent before)

@@ -7,13 +7,12 @@ use mathlib.Core.List.{List}
 use mathlib.Core.Path.{◌≡◌, refl, sym, ◌∙◌}
 use lib.ListN.{length, set, length-set}
 use lib.Seq.{set_out}
+use Rattle.std.specs.Prelude.{Option, Some, None}
 use Rattle.ground.proofs.Order.{by_order}
 use Rattle.rows.specs.declared.Window.{Window}
 use Rattle.rows.specs.Window.{in_window}
 use Rattle.window.specs.declared.Lent.{Lent}
 use Rattle.window.specs.declared.Lent.TheVariants.{Cells, All}
-use Rattle.window.specs.declared.Paint.{Paint}
-use Rattle.window.specs.declared.Paint.TheVariants.{Keep, Set}
 use Rattle.window.specs.Writes.{fill, paint_on}
 use Rattle.window.specs.Window.{row_start, on_part, on_row, plane_of, Room, LentRoom}
 use Rattle.window.proofs.Parts.{on_same, on_nil}
@@ -39,36 +38,44 @@ fill_clip value x (suc more) row =
 
 -- a turn of the loop
 pub fill_again :
-    (value k left : ℕ) (row whole : List ℕ) →
-    0 < left →
-    fill value k left row ≡ whole →
-    fill value (k + 1) (left - 1) (set row k value) ≡ whole
+    (value k end : ℕ) (row whole : List ℕ) →
+    k < end →
+    fill value k (end - k) row ≡ whole →
+    fill value (k + 1) (end - (k + 1)) (set row k value) ≡ whole
 unfolding fill
-fill_again value k zero row whole h e = absurd (omega arith)
-fill_again value k (suc left) row whole h e = let d : suc left - 1 ≡ left = omega arith in rw (d, add-one k) e
+fill_again value k end row whole h e =
+    let d : end - k ≡ suc (end - (k + 1)) = omega arith in
+    let first : fill value k (end - k) row ≡ fill value (k + 1) (end - (k + 1)) (set row k value) = rw (d, add-one k) in
+    sym first ∙ e
 
 -- its end
 pub fill_done :
-    (value x k left first room columns : ℕ) (row before : List ℕ) →
-    left ≤ 0 →
+    (value x k end room columns : ℕ) (row before : List ℕ) →
+    end ≤ k →
     room ≡ length before - x →
-    first ≡ min columns room →
-    fill value k left row ≡ fill value x first before →
+    end ≡ x + min columns room →
+    fill value k (end - k) row ≡ fill value x (end - x) before →
     row ≡ fill value x columns before
 unfolding fill
-fill_done value x k zero first room columns row before h r m e = e ∙ rw (m, r) (fill_clip value x columns before)
-fill_done value x k (suc left) first room columns row before h r m e = absurd (omega arith)
+fill_done value x k end room columns row before h r m e =
+    let none : end - k ≡ 0 = omega arith in
+    let some : end - x ≡ min columns (length before - x) = omega arith in
+    (rw (none, some) at e) ∙ fill_clip value x columns before
 
 -- What is painted: nothing, or a value.
 
-module _ (start width x columns : ℕ) (paint : Paint) (plane : List ℕ) where
-  pub paint_keep : paint ≡ Keep → plane ≡ on_part start width (paint_on paint x columns) plane
+pub nothing : (paint : Option ℕ) → ((value : ℕ) → paint ≡ Some value → ⊥) → paint ≡ None
+nothing None not_some = refl
+nothing (Some value) not_some = absurd (not_some value refl)
+
+module _ (start width x columns : ℕ) (paint : Option ℕ) (plane : List ℕ) where
+  pub paint_keep : ((value : ℕ) → paint ≡ Some value → ⊥) → plane ≡ on_part start width (paint_on paint x columns) plane
   unfolding paint_on
-  paint_keep e = rw e (on_same start width _ plane (λ row. refl))
+  paint_keep not_some = rw (nothing paint not_some) (on_same start width _ plane (λ row. refl))
 
   pub paint_set :
       (value : ℕ) (after : List ℕ) →
-      paint ≡ Set value →
+      paint ≡ Some value →
       after ≡ on_part start width (fill value x columns) plane →
       after ≡ on_part start width (paint_on paint x columns) plane
   unfolding paint_on
@@ -76,7 +83,7 @@ module _ (start width x columns : ℕ) (paint : Paint) (plane : List ℕ) where
 
 -- The planes that are lent besides the cells.
 
-module _ (lent : Lent) (start width x columns : ℕ) (paint : Paint) (before after : List ℕ) where
+module _ (lent : Lent) (start width x columns : ℕ) (paint : Option ℕ) (before after : List ℕ) where
   -- a plane that is not lent stays away
   pub paint_absent : lent ≡ Cells → plane_of lent after ≡ on_part start width (paint_on paint x columns) (plane_of lent before)
   unfolding plane_of

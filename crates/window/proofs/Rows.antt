@@ -8,14 +8,13 @@ use mathlib.Core.Path.{◌≡◌, refl, ap, ◌∙◌}
 use lib.Dec.{eqb}
 use lib.ListN.{length, take, set, length-set}
 use borrow.Author.Tests.{lt-ltb, le-ltb, le-leb, lt-leb, eq-eqb, ne_eqb}
+use Rattle.std.specs.Prelude.{Option, Some, None}
 use Rattle.ground.proofs.Order.{by_order, by_three}
 use Rattle.ground.proofs.Each.{cond_holds}
 use Rattle.rows.specs.declared.Window.{Window}
 use Rattle.rows.specs.Window.{in_window}
 use Rattle.rows.specs.Spots.{Ink, stroke, marker, glyph}
 use Rattle.canvas.proofs.Theorems.{stroke_length, marker_length, text_length}
-use Rattle.window.specs.declared.Paint.{Paint}
-use Rattle.window.specs.declared.Paint.TheVariants.{Keep, Set}
 use Rattle.window.specs.Writes.{Write, ink_on, columns_of, fill, paint_on, ink_cells, ink_colours, ink_stamps, row_after}
 use Rattle.window.specs.Window.{row_start, part, on_part, on_row, window_after}
 use Rattle.window.proofs.Parts.{Keeps, on_same, on_length, crop_before, crop_after, crop_here}
@@ -140,10 +139,10 @@ unfolding fill
 fill_keeps value x zero row = refl
 fill_keeps value x (suc more) row = fill_keeps value (suc x) more (set row x value) ∙ length-set row x value
 
-pub paint_keeps : (paint : Paint) (x columns : ℕ) → Keeps (paint_on paint x columns)
+pub paint_keeps : (paint : Option ℕ) (x columns : ℕ) → Keeps (paint_on paint x columns)
 unfolding paint_on
-paint_keeps Keep x columns row = refl
-paint_keeps (Set value) x columns row = fill_keeps value x columns row
+paint_keeps None x columns row = refl
+paint_keeps (Some value) x columns row = fill_keeps value x columns row
 
 pub ink_keeps : (ranges : List ℕ) (x : ℕ) (ink : Ink) → Keeps (ink_on ranges x ink)
 unfolding ink_on

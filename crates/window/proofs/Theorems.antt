@@ -8,6 +8,7 @@ use mathlib.Core.Path.{◌≡◌, refl, sym, ap, ◌∙◌}
 use lib.Dec.{ltb}
 use lib.ListN.{length}
 use borrow.Author.Tests.{eq-eqb, ltb-false}
+use Rattle.std.specs.Prelude.{Option, Some, None}
 use Rattle.ground.specs.Each.{some}
 use Rattle.ground.proofs.Each.{by_bool, or_left, or_right, and_both}
 use Rattle.glyph.specs.Width.{width_of}
@@ -16,8 +17,6 @@ use Rattle.rows.specs.declared.Window.{Window}
 use Rattle.rows.specs.Spots.{Ink, stroke, marker, glyph, Spot, inks, spot_touches, touches}
 use Rattle.window.specs.declared.Lent.{Lent}
 use Rattle.window.specs.declared.Lent.TheVariants.{Cells, All}
-use Rattle.window.specs.declared.Paint.{Paint}
-use Rattle.window.specs.declared.Paint.TheVariants.{Keep, Set}
 use Rattle.window.specs.declared.Tint.{Tint}
 use Rattle.window.specs.Writes.{Write, tinted, ink_on, columns_of, fill, paint_on, ink_cells, ink_colours, ink_stamps, Canvas, canvas, ink_row}
 use Rattle.window.specs.Window.{on_row, window_after, ink_window, plane_of, canvas_of, LentRoom, Ready}
@@ -118,10 +117,10 @@ no_ink ranges x (stroke arms) row h = cc
 no_ink ranges x (marker kind dir dashed) row h = cc
 no_ink ranges x (glyph ch) row h = sym (text_none row ranges x ch (no_columns ranges (glyph ch) h))
 
-no_paint : (paint : Paint) (x : ℕ) (row : List ℕ) → paint_on paint x 0 row ≡ row
+no_paint : (paint : Option ℕ) (x : ℕ) (row : List ℕ) → paint_on paint x 0 row ≡ row
 unfolding paint_on fill
-no_paint Keep x row = refl
-no_paint (Set value) x row = refl
+no_paint None x row = refl
+no_paint (Some value) x row = refl
 
 -- a change in one plane that ink of no columns leaves out
 abbrev Idle : List ℕ → (Write → List ℕ → List ℕ) → Type 0

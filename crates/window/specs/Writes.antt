@@ -1,10 +1,8 @@
 -- A write: ink at a place of the sheet, with the colour and the stamp that go with it. What a list of writes leaves of one row of the sheet.
-use Rattle.std.specs.Prelude.{ℕ, zero, suc, cond, List, [], ◌∷◌, map, eqb, set, replicate}
+use Rattle.std.specs.Prelude.{ℕ, zero, suc, cond, List, [], ◌∷◌, map, eqb, set, replicate, Option, Some, None}
 use Rattle.glyph.specs.Width.{width_of}
 use Rattle.canvas.specs.Row.{stroke_row, marker_row, text_row}
 use Rattle.rows.specs.Spots.{Ink, stroke, marker, glyph, Spot}
-use Rattle.window.specs.declared.Paint.{Paint}
-use Rattle.window.specs.declared.Paint.TheVariants.{Keep, Set}
 use Rattle.window.specs.declared.Tint.{Tint}
 
 pub record Write : Type 0 where
@@ -21,13 +19,13 @@ tinted tint spots = map (write tint) spots
 -- which colour and which stamp: neither, a colour alone, or both
 
 abbrev pub keep_tint : Tint
-keep_tint = record { colour = Keep; stamp = Keep }
+keep_tint = record { colour = None; stamp = None }
 
 abbrev pub colour_tint : ℕ → Tint
-colour_tint colour = record { colour = Set colour; stamp = Keep }
+colour_tint colour = record { colour = Some colour; stamp = None }
 
 abbrev pub stamp_tint : ℕ → ℕ → Tint
-stamp_tint colour number = record { colour = Set colour; stamp = Set number }
+stamp_tint colour number = record { colour = Some colour; stamp = Some number }
 
 -- What a write changes of its row, in each plane.
 
@@ -47,9 +45,9 @@ unfoldable pub fill : ℕ → ℕ → ℕ → List ℕ → List ℕ
 fill value x zero row = row
 fill value x (suc more) row = fill value (suc x) more (set row x value)
 
-unfoldable pub paint_on : Paint → ℕ → ℕ → List ℕ → List ℕ
-paint_on Keep x columns row = row
-paint_on (Set value) x columns row = fill value x columns row
+unfoldable pub paint_on : Option ℕ → ℕ → ℕ → List ℕ → List ℕ
+paint_on None x columns row = row
+paint_on (Some value) x columns row = fill value x columns row
 
 unfoldable pub ink_cells : List ℕ → Write → List ℕ → List ℕ
 ink_cells ranges w row = ink_on ranges w.spot.x w.spot.ink row

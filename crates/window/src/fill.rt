@@ -4,7 +4,7 @@ ghost use Rattle.window.specs.Writes.{fill, paint_on};
 ghost use Rattle.window.specs.Window.{on_part, on_row, plane_of, Room, LentRoom};
 ghost use Rattle.window.specs.Computed.{on_rows};
 
-use crate::{Lent, Paint, Tint};
+use crate::{Lent, Tint};
 use rows::Window;
 
 // In so many columns of a row from x on; columns past the row's end vanish.
@@ -12,12 +12,9 @@ pub fn fill(row: &mut [u32], x: usize, columns: usize, value: u32)
     ensures { row.new ≡ fill value x columns row.old }
 {
     let room = ground::minus(row.len(), x);
-    let mut left = ground::min(columns, room);
-    let mut k = x;
-    while 0 < left {
+    let end = x + ground::min(columns, room);
+    for k in x..end {
         row[k] = value;
-        k += 1;
-        left -= 1;
     }
 }
 
@@ -29,13 +26,19 @@ fn fill_part(plane: &mut [u32], start: usize, width: usize, x: usize, columns: u
     fill(&mut plane[start..end], x, columns, value);
 }
 
-fn paint_part(plane: &mut [u32], start: usize, width: usize, x: usize, columns: usize, paint: Paint)
+fn paint_part(
+    plane: &mut [u32],
+    start: usize,
+    width: usize,
+    x: usize,
+    columns: usize,
+    paint: Option<u32>,
+)
     requires { start + width ≤ length plane.old }
     ensures { plane.new ≡ on_part start width (paint_on paint x columns) plane.old }
 {
-    match paint {
-        Paint::Keep => {}
-        Paint::Set(value) => fill_part(plane, start, width, x, columns, value),
+    if let Some(value) = paint {
+        fill_part(plane, start, width, x, columns, value);
     }
 }
 
@@ -96,21 +99,18 @@ fn fill_down(plane: &mut [u32], v: Window, x: usize, low: usize, high: usize, va
     let first = v.first;
     let rows = v.rows;
     let end = ground::min(high, first + rows);
-    let mut y = ground::max(low, first);
-    while y < end {
+    for y in ground::max(low, first)..end {
         let start = crate::row_start(y - first, width, rows);
         fill_part(plane, start, width, x, 1, value);
-        y += 1;
     }
 }
 
-fn paint_down(plane: &mut [u32], v: Window, x: usize, low: usize, high: usize, paint: Paint)
+fn paint_down(plane: &mut [u32], v: Window, x: usize, low: usize, high: usize, paint: Option<u32>)
     requires { Room v plane.old × (v.first + v.rows ≤ 0xFFFFFFFF) }
     ensures { plane.new ≡ on_rows v low high (λ y. paint_on paint x 1) plane.old }
 {
-    match paint {
-        Paint::Keep => {}
-        Paint::Set(value) => fill_down(plane, v, x, low, high, value),
+    if let Some(value) = paint {
+        fill_down(plane, v, x, low, high, value);
     }
 }
 

@@ -23,22 +23,13 @@ pub enum Lent {
     All,
 }
 
-// What a write does to the words of its columns in a plane besides the cells.
-#[derive(Clone, Copy)]
-pub enum Paint {
-    // they stay
-    Keep,
-    // they become this word
-    Set(u32),
-}
-
-// The colour and the stamp of a write.
+// The colour and the stamp of a write: what the words of its columns become in a plane besides the cells. Where there is none, they stay.
 #[derive(Clone, Copy)]
 pub struct Tint {
     // its colour
-    pub colour: Paint,
+    pub colour: Option<u32>,
     // the number of the edge that makes it
-    pub stamp: Paint,
+    pub stamp: Option<u32>,
 }
 
 // Where a row of a window begins, by its number from the window's first row. The one product stands alone: whoever calls this has linear facts.

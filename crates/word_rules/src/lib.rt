@@ -108,8 +108,9 @@ fn node_rule(image: &[u32], at: usize, glyphs: usize, field: usize) -> WordRule
         },
         layout::NODE_LABEL_COUNT => WordRule::Any,
         layout::NODE_FLAGS => WordRule::Flags(layout::NODE_SPARE),
-        layout::NODE_LOOP_X => loop_rule(word(image, at + layout::NODE_FLAGS)),
-        layout::NODE_LOOP_Y => loop_rule(word(image, at + layout::NODE_FLAGS)),
+        layout::NODE_LOOP_X | layout::NODE_LOOP_Y => {
+            loop_rule(word(image, at + layout::NODE_FLAGS))
+        }
         _ => WordRule::Within,
     }
 }
@@ -120,7 +121,7 @@ fn path_rules(points: usize, path: u32, count: u32) -> PathRules
 {
     let through = WordRule::Span {
         of: RecordKind::Point,
-        count: count,
+        count,
         held: points,
     };
     match path {
@@ -159,7 +160,7 @@ fn label_start_rule(glyphs: usize, flags: u32, count: u32) -> WordRule
     if flag(flags, layout::LABEL_PRESENT) {
         WordRule::Span {
             of: RecordKind::Glyph,
-            count: count,
+            count,
             held: glyphs,
         }
     } else {
@@ -193,8 +194,7 @@ fn edge_rule(image: &[u32], at: usize, points: usize, glyphs: usize, field: usiz
         layout::EDGE_C => path.c,
         layout::EDGE_LABEL_START => label_start_rule(glyphs, flags, letters),
         layout::EDGE_LABEL_COUNT => label_count_rule(flags),
-        layout::EDGE_COLOUR => WordRule::Any,
-        layout::EDGE_LABEL_COLOUR => WordRule::Any,
+        layout::EDGE_COLOUR | layout::EDGE_LABEL_COLOUR => WordRule::Any,
         _ => WordRule::Within,
     }
 }
@@ -256,7 +256,7 @@ fn element_rule(number: u32, nodes: usize, edges: usize, subgraphs: usize, field
 {
     match field {
         layout::ELEMENT_KIND => WordRule::Kind,
-        layout::ELEMENT_INDEX => index_rule(ElementKind::of(number), nodes, edges, subgraphs),
+        layout::ELEMENT_INDEX => index_rule(ElementKind::from(number), nodes, edges, subgraphs),
         _ => WordRule::Within,
     }
 }

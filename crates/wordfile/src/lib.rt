@@ -29,10 +29,8 @@ pub fn fill(bytes: &[u8], words: &mut [u32]) -> usize
     ensures words_after { words.new ≡ filled bytes.now words.old 0 (min (length bytes.now / 4) (length words.old)) }
 {
     let count = ground::min(bytes.len() / 4, words.len());
-    let mut k: usize = 0;
-    while k < count {
+    for k in 0..count {
         words[k] = word_at(bytes, k);
-        k += 1;
     }
     count
 }
@@ -63,10 +61,8 @@ pub fn store(words: &[u32], bytes: &mut [u8]) -> usize
     ensures bytes_after { bytes.new ≡ stored words.now (min (length words.now) (length bytes.old / 4)) bytes.old }
 {
     let count = ground::min(words.len(), bytes.len() / 4);
-    let mut k: usize = 0;
-    while k < count {
+    for k in 0..count {
         put_word(bytes, k, words[k]);
-        k += 1;
     }
     4 * count
 }

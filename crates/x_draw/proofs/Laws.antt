@@ -1,4 +1,5 @@
 -- What is drawn of an X flow: which pieces are lines and which are cells, and what all that is drawn comes to.
+use Rattle.std.specs.Prelude.{Option, Some, None}
 use Prim.Native.Nat.{ℕ}
 use mathlib.Core.Bool.{Bool, false, not}
 use mathlib.Core.List.{List, [], ◌∷◌}
@@ -10,8 +11,6 @@ use Rattle.cell.specs.declared.Weight.{Weight}
 use Rattle.image.specs.declared.Edge.{Edge}
 use Rattle.flow.specs.declared.Bend.{Bend}
 use Rattle.flow.specs.declared.Leg.{Leg}
-use Rattle.flow.specs.declared.Coordinate.{Coordinate}
-use Rattle.flow.specs.declared.Coordinate.TheVariants as coordinate
 use Rattle.flow.specs.declared.Piece.{Piece}
 use Rattle.flow.specs.Flow.{target_marker, corner_bend, leg_bend}
 use Rattle.x_flow.specs.XFlow.{sign_x, direct_x, cross_line_x, cross_first_x, cross_last_x, corner_arrow_x, trunk_x, own_start_x, tail_x, bent_x, corner_x, channel_line_x, side_x}
@@ -85,14 +84,14 @@ module _ (pen : Pen) (ranges : List ℕ) (e : Edge) (a b : Canvas) where
   unfolding leg_x
   straight_leg offset leg h d = rw (eq-eqb leg.y1 leg.y2 h) d
 
-module _ (pen : Pen) (ranges : List ℕ) (e : Edge) (offset : ℕ) (leg : Leg) (corner : Coordinate) (bends : leg.y1 ≡ leg.y2 → ⊥) (found : corner ≡ corner_column e offset leg) (a : Canvas) where
-  pub below_leg : corner ≡ coordinate.Below → Inked pen ranges (leg_x e offset leg) a a
+module _ (pen : Pen) (ranges : List ℕ) (e : Edge) (offset : ℕ) (leg : Leg) (corner : Option ℕ) (bends : leg.y1 ≡ leg.y2 → ⊥) (found : corner ≡ corner_column e offset leg) (a : Canvas) where
+  pub below_leg : corner ≡ None → Inked pen ranges (leg_x e offset leg) a a
   unfolding leg_x crossing_x
   below_leg is = rw (ne_eqb leg.y1 leg.y2 bends, ← found, is) (inked_none pen ranges a)
 
   pub bent_leg :
       (b : Canvas) (column : ℕ) (w : Weight) (s : Bool) (v : Bend) →
-      corner ≡ coordinate.At column →
+      corner ≡ Some column →
       w ≡ e.weight →
       s ≡ sign_x e →
       v ≡ leg_bend e offset leg column →

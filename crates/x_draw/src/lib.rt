@@ -1,4 +1,4 @@
-// "X flow": the pieces of an edge that flows right or left, drawn one after the other. It makes no runs.
+// "X flow": the pieces of an edge that flows right or left, drawn one after the other. It makes no runs. Written out and no mirror of Y, as D44 of docs/DECISIONS.md has it.
 #![tactic(auto)]
 
 ghost use Rattle.std.specs.Prelude.{◌≡◌, [], ◌∷◌};
@@ -8,7 +8,7 @@ ghost use Rattle.window.specs.Window.{canvas_of, Ready};
 ghost use Rattle.draw.specs.Drawn.{Inked};
 
 use draw::{Pen, draw_cell, draw_line};
-use flow::{Bend, Coordinate, Leg};
+use flow::{Bend, Leg};
 use image::Edge;
 
 // Direct, Spline: horizontal at from y, between.
@@ -170,7 +170,7 @@ pub fn draw_leg(
         return;
     }
     let corner = x_flow::corner_column(e, offset, leg);
-    let Coordinate::At(column) = corner else {
+    let Some(column) = corner else {
         return;
     };
     let s = x_flow::sign(e);

@@ -1,15 +1,12 @@
 -- "X flow exchanges the axes, but crossings are immediate strokes; the corner arrow needs bend = from x + s exactly; SideChannel has a source trunk and
 -- start arrow, its bend being span start." Bends and spans are columns, the channel is a row, the offset counts columns. The pieces stand in the order of the
 -- text; a piece that is not there is `Nothing`.
-use Rattle.std.specs.Prelude.{ℕ, ◌+◌, Bool, false, not, cond, ◌&&◌, List, [], ◌∷◌, ltb, eqb}
+use Rattle.std.specs.Prelude.{ℕ, ◌+◌, Bool, false, not, cond, ◌&&◌, List, [], ◌∷◌, ltb, eqb, Option, Some, None}
 use Rattle.cell.specs.declared.Weight.{Weight}
 use Rattle.cell.specs.declared.Dir.{Dir}
 use Rattle.cell.specs.declared.Dir.TheVariants.{Left, Right}
 use Rattle.cell.specs.OneCell.{horizontal}
 use Rattle.image.specs.declared.Edge.{Edge}
-use Rattle.flow.specs.declared.Coordinate.{Coordinate}
-use Rattle.flow.specs.declared.Coordinate.TheVariants as coordinate
-use Rattle.flow.specs.declared.Head.TheVariants as head
 use Rattle.flow.specs.declared.Bend.{Bend}
 use Rattle.flow.specs.declared.Leg.{Leg}
 use Rattle.flow.specs.declared.Piece.{Piece}
@@ -37,7 +34,7 @@ direct_x e =
 
 -- a crossing from y1 to y2 on a column: the strokes strictly inside, at once
 unfoldable pub cross_line_x : ℕ → ℕ → ℕ → Piece
-cross_line_x column y1 y2 = Vertical (line_of column y1 y2 head.None head.None)
+cross_line_x column y1 y2 = Vertical (line_of column y1 y2 None None)
 
 -- first corner with an arm toward −s and inward; an arrow asked for replaces it
 unfoldable pub cross_first_x : Weight → Bool → Bool → ℕ → ℕ → ℕ → Piece
@@ -62,14 +59,14 @@ corner_arrow_x s v = v.start_arrow && next_x s v.x1 v.bend
 unfoldable pub trunk_x : Bool → Bend → Piece
 trunk_x s v =
     cond v.has_trunk
-    (Horizontal (line_of v.y1 v.x1 v.bend (start_head v.start_arrow s v.x1 (against_x s)) head.None))
+    (Horizontal (line_of v.y1 v.x1 v.bend (start_head v.start_arrow s v.x1 (against_x s)) None))
     Nothing
 
 unfoldable pub own_start_x : Weight → Bool → ℕ → ℕ → Piece
 own_start_x w strokes x y = cond strokes (Stroke x y (horizontal w)) Nothing
 
 unfoldable pub tail_x : Bool → Bool → ℕ → ℕ → ℕ → Piece
-tail_x s arrow y from to = Horizontal (line_of y from to (end_head arrow s to (with_x s)) head.None)
+tail_x s arrow y from to = Horizontal (line_of y from to (end_head arrow s to (with_x s)) None)
 
 -- a way that bends once, on a column: a trunk to that column, a stroke at its own start, the crossing, and a horizontal to its end
 unfoldable pub bent_x : Weight → Bool → Bend → List Piece
@@ -88,7 +85,7 @@ corner_x e bend = bent_x e.weight (sign_x e) (corner_bend e bend)
 
 -- horizontal in the channel
 unfoldable pub channel_line_x : ℕ → ℕ → ℕ → Piece
-channel_line_x channel start end = Horizontal (line_of channel start end head.None head.None)
+channel_line_x channel start end = Horizontal (line_of channel start end None None)
 
 -- SideChannel: a source trunk (start arrow), crossing at span start (the corner arrow as at a bend), horizontal in the channel, crossing at span end,
 -- horizontal to the target (end arrow)
@@ -117,13 +114,13 @@ unfoldable pub straight_x : Edge → Leg → List Piece
 straight_x e leg = own_start_x e.weight (not leg.first) leg.x1 leg.y1 ∷ straight_line_x e leg ∷ []
 
 -- else the corner column is px + s·(1 + offset on the first leg, 0 later)
-unfoldable pub corner_column : Edge → ℕ → Leg → Coordinate
+unfoldable pub corner_column : Edge → ℕ → Leg → Option ℕ
 corner_column e offset leg = along (sign_x e) leg.x1 (corner_steps offset leg)
 
 -- with offset > 0 the first leg has a trunk to it; a corner below 0 draws nothing: code 6
-unfoldable pub crossing_x : Edge → ℕ → Leg → Coordinate → List Piece
-crossing_x e offset leg coordinate.Below = []
-crossing_x e offset leg (coordinate.At column) = bent_x e.weight (sign_x e) (leg_bend e offset leg column)
+unfoldable pub crossing_x : Edge → ℕ → Leg → Option ℕ → List Piece
+crossing_x e offset leg None = []
+crossing_x e offset leg (Some column) = bent_x e.weight (sign_x e) (leg_bend e offset leg column)
 
 unfoldable pub leg_x : Edge → ℕ → Leg → List Piece
 leg_x e offset leg =

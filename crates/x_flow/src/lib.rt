@@ -10,7 +10,7 @@ ghost use Rattle.flow.specs.Flow.{start_head, end_head};
 ghost use Rattle.flow.specs.Bounds.{SmallBend, SmallLeg, SmallCoordinate};
 
 use cell::{Arms, Dir, Weight};
-use flow::{Bend, Coordinate, Head, Leg, Piece};
+use flow::{Bend, Head, Leg, Piece};
 use image::Edge;
 
 // s is +1 if to x ≥ from x, else −1.
@@ -28,7 +28,7 @@ fn against_flow(s: bool) -> Dir
 }
 
 // A start arrow points −s at from x + s.
-fn start_head(wanted: bool, s: bool, from: usize) -> Head
+fn start_head(wanted: bool, s: bool, from: usize) -> Option<Head>
     requires { from < 0x800000000000 }
     ensures { result ≡ start_head wanted s from (against_x s) }
 {
@@ -36,7 +36,7 @@ fn start_head(wanted: bool, s: bool, from: usize) -> Head
 }
 
 // An end arrow points s at to x − s.
-fn end_head(wanted: bool, s: bool, to: usize) -> Head
+fn end_head(wanted: bool, s: bool, to: usize) -> Option<Head>
     requires { to < 0x800000000000 }
     ensures { result ≡ end_head wanted s to (with_x s) }
 {
@@ -64,7 +64,7 @@ pub fn direct(e: Edge) -> Piece
 pub fn cross_line(column: usize, y1: usize, y2: usize) -> Piece
     ensures { result ≡ cross_line_x column y1 y2 }
 {
-    Piece::Vertical(flow::line_of(column, y1, y2, Head::None, Head::None))
+    Piece::Vertical(flow::line_of(column, y1, y2, None, None))
 }
 
 // The first corner of a crossing, or the arrow that replaces it.
@@ -127,7 +127,7 @@ pub fn trunk(s: bool, v: Bend) -> Piece
 {
     if v.has_trunk {
         let head = start_head(v.start_arrow, s, v.x1);
-        Piece::Horizontal(flow::line_of(v.y1, v.x1, v.bend, head, Head::None))
+        Piece::Horizontal(flow::line_of(v.y1, v.x1, v.bend, head, None))
     } else {
         Piece::Nothing
     }
@@ -154,14 +154,14 @@ pub fn tail(s: bool, arrow: bool, y: usize, from: usize, to: usize) -> Piece
     ensures { result ≡ tail_x s arrow y from to }
 {
     let head = end_head(arrow, s, to);
-    Piece::Horizontal(flow::line_of(y, from, to, head, Head::None))
+    Piece::Horizontal(flow::line_of(y, from, to, head, None))
 }
 
 // A horizontal in the channel.
 pub fn channel_line(channel: usize, start: usize, end: usize) -> Piece
     ensures { result ≡ channel_line_x channel start end }
 {
-    Piece::Horizontal(flow::line_of(channel, start, end, Head::None, Head::None))
+    Piece::Horizontal(flow::line_of(channel, start, end, None, None))
 }
 
 // Equal y gives a horizontal (start arrow on the first leg beats end arrow on the last).
@@ -178,7 +178,7 @@ pub fn straight_line(e: Edge, leg: Leg) -> Piece
 }
 
 // The corner column is px + s·(1 + offset on the first leg, 0 later).
-pub fn corner_column(e: Edge, offset: u32, leg: Leg) -> Coordinate
+pub fn corner_column(e: Edge, offset: u32, leg: Leg) -> Option<usize>
     requires { SmallLeg leg }
     ensures { (result ≡ corner_column e offset leg) × SmallCoordinate result }
 {

@@ -1,4 +1,5 @@
 -- What the pieces of an X flow reach, by their numbers alone.
+use Rattle.std.specs.Prelude.{Option, Some, None}
 use native.Mathlib.Omega.{arith}
 use Prim.Native.Nat.{ℕ, ◌+◌, ◌-◌, ◌<◌, min, max}
 use mathlib.Core.Path.{◌≡◌, refl, sym, ◌∙◌}
@@ -11,15 +12,12 @@ use Rattle.ground.proofs.Each.{by_bool}
 use Rattle.cell.specs.declared.Weight.{Weight}
 use Rattle.image.specs.declared.Edge.{Edge}
 use Rattle.rows.specs.declared.Rows.{Rows}
-use Rattle.rows.specs.declared.Rows.TheVariants as rows
 use Rattle.rows.specs.declared.Window.{Window}
 use Rattle.rows.specs.Window.{join_rows}
 use Rattle.rows.specs.Computed.{window_rows}
 use Rattle.rows.proofs.Theorems.{join_none}
 use Rattle.rows.proofs.Windows.{touched_or, touched_same, window_row, window_rows_lem}
 use Rattle.flow.specs.declared.Bend.{Bend}
-use Rattle.flow.specs.declared.Coordinate.{Coordinate}
-use Rattle.flow.specs.declared.Coordinate.TheVariants as coordinate
 use Rattle.flow.specs.declared.Leg.{Leg}
 use Rattle.flow.specs.declared.Reach.{Reach}
 use Rattle.flow.specs.Flow.{line_of, corner_bend, leg_bend, target_marker}
@@ -78,7 +76,7 @@ module _ (window : Window) where
         )
         (touched_same window _ _ (λ y i j. among y h)))
 
-    nothing_between : y1 ≡ y2 → vertical_rows window y1 y2 ≡ rows.None
+    nothing_between : y1 ≡ y2 → vertical_rows window y1 y2 ≡ None
     nothing_between h = sym (vertical_short window y1 y2 (omega arith))
 
     crossed :
@@ -173,7 +171,7 @@ module _ (window : Window) where
       crossing_none h = rw (eq-eqb y1 y2 h, join_none reach.rows)
 
       pub crossing_joined :
-          (top bottom : ℕ) (between : Rows) (r : Reach) →
+          (top bottom : ℕ) (between : Option Rows) (r : Reach) →
           r ≡ with_rows reach between →
           between ≡ window_rows window top bottom →
           top ≡ min y1 y2 →
@@ -275,14 +273,14 @@ module _ (window : Window) where
           (line_reached e leg)
           p q h
 
-      module _ (corner : Coordinate) (is : corner ≡ corner_column e offset leg) (h : leg.y1 ≡ leg.y2 → ⊥) where
-        pub below_leg : corner ≡ coordinate.Below → r ≡ reach → r ≡ join_reach reach (reach_of window (leg_x e offset leg))
+      module _ (corner : Option ℕ) (is : corner ≡ corner_column e offset leg) (h : leg.y1 ≡ leg.y2 → ⊥) where
+        pub below_leg : corner ≡ None → r ≡ reach → r ≡ join_reach reach (reach_of window (leg_x e offset leg))
         unfolding leg_x crossing_x reach_of
         below_leg b p = leg_bent window reach r leg.y1 leg.y2 _ _ h (rw (← is, b) (p ∙ sym (join_no_reach reach)))
 
         pub bent_leg :
             (bend : ℕ) (has_trunk : Bool) →
-            corner ≡ coordinate.At bend →
+            corner ≡ Some bend →
             r ≡ bent_reach reach window has_trunk (not leg.first) bend leg.x1 leg.y1 leg.x2 leg.y2 →
             has_trunk ≡ leg.first && ltb 0 offset →
             r ≡ join_reach reach (reach_of window (leg_x e offset leg))

@@ -1,20 +1,19 @@
 -- For the proofs alone: the rows of a way that bends, by its numbers: its arms and arrows do not matter for them. (`bent-reached` and `side-reached` of the
 -- proofs: they are those of its pieces.)
-use Rattle.std.specs.Prelude.{ℕ, min, max, Bool, cond, eqb}
+use Rattle.std.specs.Prelude.{ℕ, min, max, Bool, cond, eqb, Option, None}
 use Rattle.rows.specs.declared.Rows.{Rows}
-use Rattle.rows.specs.declared.Rows.TheVariants as rows
 use Rattle.rows.specs.declared.Window.{Window}
 use Rattle.rows.specs.Computed.{window_rows}
 use Rattle.flow.specs.declared.Reach.{Reach}
 use Rattle.flow.specs.Reach.{row_if, horizontal_rows, with_rows}
 
 -- a trunk
-abbrev pub trunk_rows : Window → Bool → ℕ → ℕ → ℕ → Rows
-trunk_rows window trunk y1 x1 bend = cond trunk (horizontal_rows window y1 x1 bend) rows.None
+abbrev pub trunk_rows : Window → Bool → ℕ → ℕ → ℕ → Option Rows
+trunk_rows window trunk y1 x1 bend = cond trunk (horizontal_rows window y1 x1 bend) None
 
 -- a crossing: from one of its rows to the other
-unfoldable pub crossing_rows : Window → ℕ → ℕ → Rows
-crossing_rows window y1 y2 = cond (eqb y1 y2) rows.None (window_rows window (min y1 y2) (max y1 y2))
+unfoldable pub crossing_rows : Window → ℕ → ℕ → Option Rows
+crossing_rows window y1 y2 = cond (eqb y1 y2) None (window_rows window (min y1 y2) (max y1 y2))
 
 -- with a trunk, a stroke at its start, a crossing and a tail
 unfoldable pub bent_reach : Reach → Window → Bool → Bool → ℕ → ℕ → ℕ → ℕ → ℕ → Reach

@@ -1,4 +1,4 @@
-// What the pieces of an X flow reach in a window of rows. Their arms and arrows do not matter for it, so that numbers are enough. They make no run.
+// What the pieces of an X flow reach in a window of rows. Their arms and arrows do not matter for it, so that numbers are enough. They make no run. Written out and no mirror of Y, as D44 of docs/DECISIONS.md has it.
 #![tactic(auto)]
 
 ghost use Rattle.std.specs.Prelude.{◌≡◌, ◌<◌};
@@ -7,7 +7,7 @@ ghost use Rattle.x_reach.specs.Reach.{trunk_rows, crossing_rows, bent_reach, cha
 ghost use Rattle.flow.specs.Bounds.{SmallLeg};
 ghost use Rattle.flow.specs.Reach.{join_reach, piece_reach, with_rows, reach_of};
 
-use flow::{Coordinate, Leg, Reach};
+use flow::{Leg, Reach};
 use image::Edge;
 use rows::Window;
 
@@ -134,7 +134,7 @@ pub fn leg_reach(reach: Reach, window: Window, e: Edge, offset: u32, leg: Leg) -
         return touch::with_horizontal(start, window, leg.y1, leg.x1, leg.x2);
     }
     let corner = x_flow::corner_column(e, offset, leg);
-    let Coordinate::At(bend) = corner else {
+    let Some(bend) = corner else {
         return reach;
     };
     let has_trunk = flow::and(first, 0 < offset);

@@ -1,4 +1,5 @@
 -- What is drawn of a Y flow: from the pieces that the code makes and from what it calls.
+use Rattle.std.specs.Prelude.{Option, Some, None}
 use native.Mathlib.Omega.{arith}
 use Prim.Native.Nat.{ℕ, ◌+◌, ◌≤◌, ◌<◌, min, max}
 use mathlib.Core.Bool.{Bool, false, true, not}
@@ -14,8 +15,6 @@ use Rattle.rows.specs.Spots.{touches}
 use Rattle.rows.specs.Window.{in_window}
 use Rattle.flow.specs.declared.Bend.{Bend}
 use Rattle.flow.specs.declared.Leg.{Leg}
-use Rattle.flow.specs.declared.Coordinate.{Coordinate}
-use Rattle.flow.specs.declared.Coordinate.TheVariants as coordinate
 use Rattle.flow.specs.declared.Piece.{Piece}
 use Rattle.flow.specs.declared.Piece.TheVariants.{Nothing, Run, Stroke, Mark}
 use Rattle.flow.specs.Flow.{target_marker, corner_bend, leg_bend}
@@ -195,14 +194,14 @@ module _ (pen : Pen) (ranges : List ℕ) where
   unfolding leg_y
   straight_leg e offset leg a b scratch kept h i room = rw (eq-eqb leg.x1 leg.x2 h) (only_inked pen ranges (straight_y e leg) a b scratch kept i room)
 
-  module _ (e : Edge) (offset : ℕ) (leg : Leg) (corner : Coordinate) (bends : leg.x1 ≡ leg.x2 → ⊥) (found : corner ≡ corner_row e offset leg) (a : Drawing) where
-    pub below_leg : corner ≡ coordinate.Below → a.kept ≤ run_room a.scratch → Drawn pen ranges (leg_y e offset leg) a a
+  module _ (e : Edge) (offset : ℕ) (leg : Leg) (corner : Option ℕ) (bends : leg.x1 ≡ leg.x2 → ⊥) (found : corner ≡ corner_row e offset leg) (a : Drawing) where
+    pub below_leg : corner ≡ None → a.kept ≤ run_room a.scratch → Drawn pen ranges (leg_y e offset leg) a a
     unfolding leg_y crossing_y
     below_leg is room = rw (ne_eqb leg.x1 leg.x2 bends, ← found, is) (drawn_none pen ranges a room)
 
     pub bent_leg :
         (b : Drawing) (row : ℕ) (s : Bool) (v : Bend) →
-        corner ≡ coordinate.At row → s ≡ sign_y e → v ≡ leg_bend e offset leg row → pen.weight ≡ e.weight →
+        corner ≡ Some row → s ≡ sign_y e → v ≡ leg_bend e offset leg row → pen.weight ≡ e.weight →
         Drawn pen ranges (bent_y pen.weight s v) a b →
         Drawn pen ranges (leg_y e offset leg) a b
     unfolding leg_y crossing_y

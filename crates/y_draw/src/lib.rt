@@ -8,7 +8,7 @@ ghost use Rattle.y_flow.specs.YFlow.{direct_y, cross_run_y, cross_first_y, cross
 ghost use Rattle.draw.specs.Drawn.{drawing, Inked, Drawn, Drawable};
 
 use draw::{Pen, draw_cell, draw_line, keep_piece};
-use flow::{Bend, Coordinate, Leg};
+use flow::{Bend, Leg};
 use image::Edge;
 
 // "Direct, Spline: vertical at from x, between"
@@ -210,7 +210,7 @@ pub fn draw_leg(
         return kept;
     }
     let corner = y_flow::corner_row(e, offset, leg);
-    let Coordinate::At(row) = corner else {
+    let Some(row) = corner else {
         return kept;
     };
     let s = y_flow::sign(e);

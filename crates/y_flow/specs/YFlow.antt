@@ -1,13 +1,10 @@
 -- "Y flow": the pieces of an edge that flows down or up, in the order of the text; a piece that is not there is `Nothing`.
-use Rattle.std.specs.Prelude.{ℕ, ◌+◌, ◌-◌, min, max, Bool, false, not, cond, ◌&&◌, List, [], ◌∷◌, leb, ltb, eqb}
+use Rattle.std.specs.Prelude.{ℕ, ◌+◌, ◌-◌, min, max, Bool, false, not, cond, ◌&&◌, List, [], ◌∷◌, leb, ltb, eqb, Option, Some, None}
 use Rattle.cell.specs.declared.Weight.{Weight}
 use Rattle.cell.specs.declared.Dir.{Dir}
 use Rattle.cell.specs.declared.Dir.TheVariants.{Up, Down}
 use Rattle.cell.specs.OneCell.{vertical}
 use Rattle.image.specs.declared.Edge.{Edge}
-use Rattle.flow.specs.declared.Coordinate.{Coordinate}
-use Rattle.flow.specs.declared.Coordinate.TheVariants as coordinate
-use Rattle.flow.specs.declared.Head.TheVariants as head
 use Rattle.flow.specs.declared.Bend.{Bend}
 use Rattle.flow.specs.declared.Leg.{Leg}
 use Rattle.flow.specs.declared.Piece.{Piece}
@@ -60,14 +57,14 @@ corner_arrow_y s v = v.start_arrow && near_y s v.y1 v.bend
 unfoldable pub trunk_y : Bool → Bend → Piece
 trunk_y s v =
     cond v.has_trunk
-    (Vertical (line_of v.x1 v.y1 v.bend (start_head v.start_arrow s v.y1 (against_y s)) head.None))
+    (Vertical (line_of v.x1 v.y1 v.bend (start_head v.start_arrow s v.y1 (against_y s)) None))
     Nothing
 
 unfoldable pub own_start_y : Weight → Bool → ℕ → ℕ → Piece
 own_start_y w strokes x y = cond strokes (Stroke x y (vertical w)) Nothing
 
 unfoldable pub tail_y : Bool → Bool → ℕ → ℕ → ℕ → Piece
-tail_y s arrow x from to = Vertical (line_of x from to (end_head arrow s to (with_y s)) head.None)
+tail_y s arrow x from to = Vertical (line_of x from to (end_head arrow s to (with_y s)) None)
 
 -- a way that bends once, on a row: a trunk to that row, a stroke at its own start, the crossing, and a vertical to its end
 unfoldable pub bent_y : Weight → Bool → Bend → List Piece
@@ -86,7 +83,7 @@ corner_y e bend = bent_y e.weight (sign_y e) (corner_bend e bend)
 
 -- "vertical in the channel"
 unfoldable pub channel_line_y : ℕ → ℕ → ℕ → Piece
-channel_line_y channel start end = Vertical (line_of channel start end head.None head.None)
+channel_line_y channel start end = Vertical (line_of channel start end None None)
 
 -- "SideChannel: crossing at span start, vertical in the channel, crossing at span end, vertical to the target (end arrow). No source trunk or arrow."
 unfoldable pub side_y : Edge → ℕ → ℕ → ℕ → List Piece
@@ -112,14 +109,14 @@ unfoldable pub straight_y : Edge → Leg → List Piece
 straight_y e leg = own_start_y e.weight (not leg.first) leg.x1 leg.y1 ∷ straight_line_y e leg ∷ []
 
 -- "Else the corner row is py + s·(1 + offset on the first leg, 0 later)"
-unfoldable pub corner_row : Edge → ℕ → Leg → Coordinate
+unfoldable pub corner_row : Edge → ℕ → Leg → Option ℕ
 corner_row e offset leg = along (sign_y e) leg.y1 (corner_steps offset leg)
 
 -- "with offset > 0 the first leg has a trunk to it (start arrow only); crossing; vertical to the next point (end arrow only, on the last leg). Corner
 -- arrow on the first leg under the rule of Corner. Every later leg strokes the vertical at its own start." A corner below 0 draws nothing: code 6.
-unfoldable pub crossing_y : Edge → ℕ → Leg → Coordinate → List Piece
-crossing_y e offset leg coordinate.Below = []
-crossing_y e offset leg (coordinate.At row) = bent_y e.weight (sign_y e) (leg_bend e offset leg row)
+unfoldable pub crossing_y : Edge → ℕ → Leg → Option ℕ → List Piece
+crossing_y e offset leg None = []
+crossing_y e offset leg (Some row) = bent_y e.weight (sign_y e) (leg_bend e offset leg row)
 
 unfoldable pub leg_y : Edge → ℕ → Leg → List Piece
 leg_y e offset leg =

@@ -8,7 +8,7 @@ ghost use Rattle.flow.specs.Flow.{start_head, end_head};
 ghost use Rattle.flow.specs.Bounds.{SmallBend, SmallLeg, SmallCoordinate};
 
 use cell::{Arms, Dir, Weight};
-use flow::{Bend, Coordinate, Head, Leg, Piece};
+use flow::{Bend, Head, Leg, Piece};
 use image::Edge;
 
 // "Let s be +1 if to y ≥ from y, else −1."
@@ -26,7 +26,7 @@ fn against_flow(s: bool) -> Dir
 }
 
 // "a start arrow points −s at from y + s"
-fn start_head(wanted: bool, s: bool, from: usize) -> Head
+fn start_head(wanted: bool, s: bool, from: usize) -> Option<Head>
     requires { from < 0x800000000000 }
     ensures { result ≡ start_head wanted s from (against_y s) }
 {
@@ -34,7 +34,7 @@ fn start_head(wanted: bool, s: bool, from: usize) -> Head
 }
 
 // "An end arrow points s at to y − s"
-fn end_head(wanted: bool, s: bool, to: usize) -> Head
+fn end_head(wanted: bool, s: bool, to: usize) -> Option<Head>
     requires { to < 0x800000000000 }
     ensures { result ≡ end_head wanted s to (with_y s) }
 {
@@ -136,7 +136,7 @@ pub fn trunk(s: bool, v: Bend) -> Piece
 {
     if v.has_trunk {
         let head = start_head(v.start_arrow, s, v.y1);
-        Piece::Vertical(flow::line_of(v.x1, v.y1, v.bend, head, Head::None))
+        Piece::Vertical(flow::line_of(v.x1, v.y1, v.bend, head, None))
     } else {
         Piece::Nothing
     }
@@ -163,14 +163,14 @@ pub fn tail(s: bool, arrow: bool, x: usize, from: usize, to: usize) -> Piece
     ensures { result ≡ tail_y s arrow x from to }
 {
     let head = end_head(arrow, s, to);
-    Piece::Vertical(flow::line_of(x, from, to, head, Head::None))
+    Piece::Vertical(flow::line_of(x, from, to, head, None))
 }
 
 // "vertical in the channel"
 pub fn channel_line(channel: usize, start: usize, end: usize) -> Piece
     ensures { result ≡ channel_line_y channel start end }
 {
-    Piece::Vertical(flow::line_of(channel, start, end, Head::None, Head::None))
+    Piece::Vertical(flow::line_of(channel, start, end, None, None))
 }
 
 // "equal x gives a vertical (start arrow on the first leg beats end arrow on the last)"
@@ -187,7 +187,7 @@ pub fn straight_line(e: Edge, leg: Leg) -> Piece
 }
 
 // "the corner row is py + s·(1 + offset on the first leg, 0 later)"
-pub fn corner_row(e: Edge, offset: u32, leg: Leg) -> Coordinate
+pub fn corner_row(e: Edge, offset: u32, leg: Leg) -> Option<usize>
     requires { SmallLeg leg }
     ensures { (result ≡ corner_row e offset leg) × SmallCoordinate result }
 {

@@ -1,4 +1,5 @@
 -- What the pieces of a Y flow reach, by their numbers alone.
+use Rattle.std.specs.Prelude.{Option, Some, None}
 use native.Mathlib.Omega.{arith}
 use Prim.Native.Nat.{ℕ, ◌+◌, min, max}
 use mathlib.Core.Path.{◌≡◌, refl, sym, ◌∙◌}
@@ -19,8 +20,6 @@ use Rattle.flow.specs.declared.Bend.{Bend}
 use Rattle.flow.specs.declared.Leg.{Leg}
 use Rattle.flow.specs.declared.Piece.{Piece}
 use Rattle.flow.specs.declared.Reach.{Reach}
-use Rattle.flow.specs.declared.Coordinate.{Coordinate}
-use Rattle.flow.specs.declared.Coordinate.TheVariants as coordinate
 use Rattle.flow.specs.Flow.{line_of, corner_bend, leg_bend, target_marker}
 use Rattle.flow.specs.Pieces.{piece_runs_in}
 use Rattle.flow.specs.Reach.{row_if, has_inside, vertical_rows, piece_rows, piece_reach, join_reach, with_rows, reach_of}
@@ -50,7 +49,7 @@ module _ (window : Window) where
         either false = refl
 
     crossed_rows :
-        (r : Rows) →
+        (r : Option Rows) →
         join_rows (join_rows (join_rows r (row_if window (has_inside x1 x2) row)) (row_if window (not (eqb x1 x2)) row)) (row_if window (not (eqb x1 x2)) row)
         ≡ join_rows r (row_if window (not (eqb x1 x2)) row)
     crossed_rows r =
@@ -237,14 +236,14 @@ module _ (window : Window) where
           (line_reached e leg)
           p q h
 
-      module _ (corner : Coordinate) (is : corner ≡ corner_row e offset leg) (h : leg.x1 ≡ leg.x2 → ⊥) where
-        pub below_leg : corner ≡ coordinate.Below → r ≡ reach → r ≡ join_reach reach (reach_of window (leg_y e offset leg))
+      module _ (corner : Option ℕ) (is : corner ≡ corner_row e offset leg) (h : leg.x1 ≡ leg.x2 → ⊥) where
+        pub below_leg : corner ≡ None → r ≡ reach → r ≡ join_reach reach (reach_of window (leg_y e offset leg))
         unfolding leg_y crossing_y reach_of
         below_leg b p = leg_bent window reach r leg.x1 leg.x2 _ _ h (rw (← is, b) (p ∙ sym (join_no_reach reach)))
 
         pub bent_leg :
             (bend : ℕ) (has_trunk : Bool) →
-            corner ≡ coordinate.At bend →
+            corner ≡ Some bend →
             r ≡ bent_reach reach window has_trunk (not leg.first) bend leg.x1 leg.y1 leg.x2 leg.y2 →
             has_trunk ≡ leg.first && ltb 0 offset →
             r ≡ join_reach reach (reach_of window (leg_y e offset leg))

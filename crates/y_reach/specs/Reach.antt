@@ -1,8 +1,7 @@
 -- For the proofs alone: the rows and runs of a way that bends, by its numbers: its arms and arrows do not matter for them. (`bent-reached`
 -- and `side-reached` of the proofs: they are those of its pieces.)
-use Rattle.std.specs.Prelude.{ℕ, Bool, not, cond, eqb}
+use Rattle.std.specs.Prelude.{ℕ, Bool, not, cond, eqb, Option, None}
 use Rattle.rows.specs.declared.Rows.{Rows}
-use Rattle.rows.specs.declared.Rows.TheVariants as rows
 use Rattle.rows.specs.declared.Window.{Window}
 use Rattle.flow.specs.declared.Reach.{Reach}
 use Rattle.flow.specs.Pieces.{piece_runs_in}
@@ -10,8 +9,8 @@ use Rattle.flow.specs.Reach.{row_if, vertical_rows, join_reach, with_rows}
 use Rattle.y_flow.specs.YFlow.{cross_run_y}
 
 -- a trunk
-abbrev pub trunk_rows : Window → Bool → ℕ → ℕ → Rows
-trunk_rows window trunk y1 bend = cond trunk (vertical_rows window y1 bend) rows.None
+abbrev pub trunk_rows : Window → Bool → ℕ → ℕ → Option Rows
+trunk_rows window trunk y1 bend = cond trunk (vertical_rows window y1 bend) None
 
 -- a crossing: all of it is on one row
 unfoldable pub crossing_reach : Window → ℕ → ℕ → ℕ → Reach

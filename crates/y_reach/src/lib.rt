@@ -7,7 +7,7 @@ ghost use Rattle.y_reach.specs.Reach.{trunk_rows, crossing_reach, bent_reach, ch
 ghost use Rattle.flow.specs.Bounds.{bound, SmallLeg};
 ghost use Rattle.flow.specs.Reach.{join_reach, piece_reach, with_rows, reach_of};
 
-use flow::{Coordinate, Leg, Reach};
+use flow::{Leg, Reach};
 use image::Edge;
 use rows::Window;
 
@@ -133,7 +133,7 @@ pub fn leg_reach(reach: Reach, window: Window, e: Edge, offset: u32, leg: Leg) -
         return touch::with_vertical(start, window, leg.y1, leg.y2);
     }
     let corner = y_flow::corner_row(e, offset, leg);
-    let Coordinate::At(bend) = corner else {
+    let Some(bend) = corner else {
         return reach;
     };
     let has_trunk = flow::and(first, 0 < offset);

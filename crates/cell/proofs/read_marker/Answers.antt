@@ -4,4 +4,4 @@ use Rattle.cell.proofs.read_marker.Goals as goal
 
 pub returns : goal.returns
 unfolding read_marker
-returns c = rw (c.from_bits.ensures, c.from_bits-2.ensures)
+returns c = rw (c.from.ensures, c.from-2.ensures)

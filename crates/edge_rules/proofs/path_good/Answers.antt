@@ -1,24 +1,25 @@
 -- `path_good` tells of a, b and c whether each keeps the rule of the path.
-use borrow.Author.Tests.{ne_eqb}
+use Rattle.std.proofs.Common.{arith}
+use Rattle.std.proofs.lemmas.Grind.{common_steps}
 use Rattle.edge_rules.specs.Edge.{path_good}
 use Rattle.edge_rules.proofs.path_good.Goals as goal
 
-pub returns-then-path-eq-PATH_CORNER : goal.returns-then-path-eq-PATH_CORNER
+pub returns-in-1 : goal.returns-in-1
 unfolding path_good
-returns-then-path-eq-PATH_CORNER c = rw c.if-path-eq-PATH_CORNER.true
+returns-in-1 c = rw c.in-1.is
 
-pub returns-then-path-eq-PATH_SIDE_CHANNEL : goal.returns-then-path-eq-PATH_SIDE_CHANNEL
+pub returns-in-2 : goal.returns-in-2
 unfolding path_good
-returns-then-path-eq-PATH_SIDE_CHANNEL c = rw c.if-path-eq-PATH_SIDE_CHANNEL.true
+returns-in-2 c = rw c.in-2.is
 
-pub returns-then-path-eq-PATH_MULTI_SEGMENT : goal.returns-then-path-eq-PATH_MULTI_SEGMENT
+pub returns-in-3 : goal.returns-in-3
 unfolding path_good
-returns-then-path-eq-PATH_MULTI_SEGMENT c = rw (c.span_good.ensures, c.if-path-eq-PATH_MULTI_SEGMENT.true)
+returns-in-3 c = rw (c.span_good.ensures, c.in-3.is)
 
-pub returns-then-path-eq-PATH_ORTHOGONAL : goal.returns-then-path-eq-PATH_ORTHOGONAL
+pub returns-in-4 : goal.returns-in-4
 unfolding path_good
-returns-then-path-eq-PATH_ORTHOGONAL c = rw (c.span_good-then-path-eq-PATH_ORTHOGONAL.ensures, c.if-path-eq-PATH_ORTHOGONAL.true)
+returns-in-4 c = rw (c.span_good-in-4.ensures, c.in-4.is)
 
-pub returns : goal.returns
+pub returns-in_default : goal.returns-in_default
 unfolding path_good
-returns c = simp (ne_eqb _ _ c.if-path-eq-PATH_CORNER.false, ne_eqb _ _ c.if-path-eq-PATH_SIDE_CHANNEL.false, ne_eqb _ _ c.if-path-eq-PATH_MULTI_SEGMENT.false, ne_eqb _ _ c.if-path-eq-PATH_ORTHOGONAL.false)
+returns-in_default c = grind (arith, common_steps)

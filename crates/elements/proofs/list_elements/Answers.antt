@@ -1,7 +1,6 @@
 -- `list_elements` finds the first element whose thing is listed already, or leaves each thing's listing in its slot. The loop's invariant: the walk over
 -- the elements left finds what the whole walk finds, and the slots hold the listings so far.
 use borrow.Author.Rules.{rules}
-use Prim.Native.Nat.{◌-◌}
 use Rattle.elements.proofs.Laws.{walk_whole, walk_hit, walk_again, walk_done}
 use Rattle.elements.proofs.list_elements.Goals as goal
 

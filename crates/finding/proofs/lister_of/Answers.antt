@@ -1,18 +1,11 @@
--- `lister_of` finds the first element that names a thing. The invariant: what is found among the elements left is what is found among all. The measure:
--- how many are left.
+-- `lister_of` finds the first element that names a thing.
 use borrow.Author.Rules.{rules}
-use Prim.Native.Nat.{◌-◌}
-use Rattle.finding.proofs.Laws.{listing_whole, listing_hit, listing_on, listing_done}
+use Rattle.std.specs.Bool.{then_some}
+use Rattle.elements.specs.Elements.{names, lister}
 use Rattle.finding.proofs.lister_of.Goals as goal
 
-pub loop-k-init : goal.loop-k-init
-loop-k-init c = listing_whole _ _ _ _
-
-pub returns-then-names_thing : goal.returns-then-names_thing
-returns-then-names_thing c = search (listing_hit, rules)
-
-pub loop-k-preserved : goal.loop-k-preserved
-loop-k-preserved c = search (listing_on, rules)
-
 pub returns : goal.returns
-returns c = search (listing_done, rules)
+unfolding lister
+returns c =
+    let image = c.args.image.now in
+    rw (← c.tables_of-ts.ensures.value) (c.first_found.ensures (λ k. then_some (names image c.tables_of-ts.result c.args.kind c.args.index k) k) (λ k answer h e. search rules))

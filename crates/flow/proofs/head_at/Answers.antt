@@ -2,14 +2,14 @@
 use Rattle.flow.specs.Flow.{head_at}
 use Rattle.flow.proofs.head_at.Goals as goal
 
-pub returns-in_default : goal.returns-in_default
+pub returns-in_err-place : goal.returns-in_err-place
 unfolding head_at
-returns-in_default c = rw c.in_default.is
+returns-in_err-place c = rw (c.from_residual.ensures, c.in_err-place.was)
 
 pub returns-then-wanted : goal.returns-then-wanted
 unfolding head_at
-returns-then-wanted c = rw (c.in-At.is, c.if-wanted.true)
+returns-then-wanted c = rw (c.in_ok-place.was, c.if-wanted.true)
 
 pub returns-else-wanted : goal.returns-else-wanted
 unfolding head_at
-returns-else-wanted c = rw (c.in-At.is, c.if-wanted.false)
+returns-else-wanted c = rw (c.in_ok-place.was, c.if-wanted.false)

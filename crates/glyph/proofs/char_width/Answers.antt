@@ -1,6 +1,5 @@
 -- `char_width` is the width of a value. The invariant: what is left to bisect finds that width. The measure: how many ranges are left.
 use borrow.Author.Rules.{rules}
-use Prim.Native.Nat.{◌-◌}
 use Rattle.glyph.proofs.Laws.{all_ranges, searched, left_half, right_half, found}
 use Rattle.glyph.proofs.char_width.Goals as goal
 

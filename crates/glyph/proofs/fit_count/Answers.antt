@@ -1,6 +1,8 @@
--- `fit_count` is how many glyphs fit. The invariant: the glyphs passed, and those of the rest that fit, are that many. The measure: how many glyphs are left.
+-- `fit_count` is how many glyphs fit. The invariant: the glyphs passed, and those of the rest that fit, are that many.
 use borrow.Author.Rules.{rules}
-use Prim.Native.Nat.{◌-◌}
+use native.Mathlib.Omega.{arith}
+use mathlib.Core.Path.{◌≡◌, ◌∙◌}
+use lib.ListN.{length}
 use Rattle.glyph.proofs.Laws.{all_fit, one_more, no_more}
 use Rattle.glyph.proofs.fit_count.Goals as goal
 
@@ -11,4 +13,6 @@ pub loop-n-preserved : goal.loop-n-preserved
 loop-n-preserved c = (search rules, one_more _ _ _ _ _ (search rules) _ (search rules) (search rules) (search rules))
 
 pub returns : goal.returns
-returns c = (all_fit _ _ _ _ _ c.loop-n.invariant.1 (search rules), search rules)
+returns c =
+    let end : length c.args.label.now ≡ c.loop-n.n = omega (arith, c.loop-n.invariant.0) in
+    (end ∙ all_fit _ _ _ _ _ c.loop-n.invariant.1 (search rules), search rules)

@@ -1,7 +1,5 @@
 -- `owner_in` finds the first thing of a kind whose label holds a glyph. The invariant: what is found among the things left is what is found among all.
--- The measure: how many are left.
 use borrow.Author.Rules.{rules}
-use Prim.Native.Nat.{◌-◌}
 use Rattle.glyph_owner.proofs.Laws.{look_whole, look_hit, look_on, look_done}
 use Rattle.glyph_owner.proofs.owner_in.Goals as goal
 

@@ -2,4 +2,4 @@
 use Rattle.header.proofs.or_unless.Goals as goal
 
 pub returns-else-good : goal.returns-else-good
-returns-else-good c = rw c.if-good.false c.or_else.ensures
+returns-else-good c = rw c.if-good.false c.or.ensures

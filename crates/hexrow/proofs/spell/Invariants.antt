@@ -1,5 +1,5 @@
 -- `spell` writes as many words as have room. The invariant: the words passed are spelled, and all beyond them is as at first.
-use Prim.Native.Nat.{◌*◌, ◌-◌, ◌≤◌}
+use Prim.Native.Nat.{◌*◌, ◌≤◌}
 use mathlib.Core.List.{◌++◌}
 use mathlib.Core.Path.{◌≡◌}
 use lib.ListN.{length, take, drop}
@@ -8,8 +8,5 @@ use Rattle.hexrow.proofs.spell.Given as goal
 
 abbrev pub invariant-loop-k : goal.invariant-loop-k
 invariant-loop-k l =
-    (l.k ≤ l.count) × (l.count ≤ length l.words) × (9 * l.count ≤ length l.initial.text) × (length l.text ≡ length l.initial.text)
+    (l.count ≤ length l.words) × (9 * l.count ≤ length l.initial.text)
     × (l.text ≡ spelled (take l.k l.words) ++ drop (9 * l.k) l.initial.text)
-
-abbrev pub decreases-loop-k : goal.decreases-loop-k
-decreases-loop-k l = l.count - l.k

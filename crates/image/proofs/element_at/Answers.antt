@@ -4,4 +4,4 @@ use Rattle.image.proofs.Laws.{element_of}
 use Rattle.image.proofs.element_at.Goals as goal
 
 pub returns : goal.returns
-returns c = element_of _ _ _ _ _ c.of.ensures (search rules)
+returns c = element_of _ _ _ _ _ c.from.ensures (search rules)

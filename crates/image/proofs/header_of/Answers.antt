@@ -4,4 +4,4 @@ use Rattle.image.proofs.Laws.{header_of_lem}
 use Rattle.image.proofs.header_of.Goals as goal
 
 pub returns : goal.returns
-returns c = header_of_lem _ _ _ _ c.four_at-words.ensures (search rules) (search rules)
+returns c = header_of_lem _ _ _ _ c.four_at-width.ensures (search rules) (search rules)

@@ -4,4 +4,4 @@ use Rattle.image.proofs.Laws.{node_of}
 use Rattle.image.proofs.node_at.Goals as goal
 
 pub returns : goal.returns
-returns c = node_of _ _ _ _ _ _ _ _ c.node_kind_of.ensures c.self_loop_of.ensures (search rules) (search rules) (search rules)
+returns c = node_of _ _ _ _ _ _ _ _ _ c.from.ensures c.bits-kind.ensures c.self_loop_of.ensures (search rules) (search rules) (search rules)

@@ -2,10 +2,6 @@
 use Rattle.image.specs.Records.{self_loop_of}
 use Rattle.image.proofs.self_loop_of.Goals as goal
 
-pub returns-then-flag : goal.returns-then-flag
+pub returns : goal.returns
 unfolding self_loop_of
-returns-then-flag c = rw (← c.flag.ensures, c.if-flag.true)
-
-pub returns-else-flag : goal.returns-else-flag
-unfolding self_loop_of
-returns-else-flag c = rw (← c.flag.ensures, c.if-flag.false)
+returns c = rw (c.then_some.ensures, c.flag.ensures)

@@ -1,19 +1,9 @@
--- `unlisted_subgraph` finds the first subgraph that touches a row which its listing lacks. The loop's invariant: the search over the subgraphs left finds what the whole
--- search finds.
+-- `unlisted_subgraph` finds the first subgraph that touches a row which its listing lacks.
 use borrow.Author.Rules.{rules}
-use Prim.Native.Nat.{◌-◌}
 use Rattle.image.specs.declared.ElementKind.TheVariants as kind
-use Rattle.listing.proofs.Laws.{things_whole, things_hit, things_again, things_done}
+use Rattle.listing.proofs.Laws.{things_searched}
 use Rattle.listing.proofs.unlisted_subgraph.Goals as goal
 
-pub loop-k-init : goal.loop-k-init
-loop-k-init c = (search rules, things_whole kind.Subgraph _ _)
-
-pub returns-then-slot_lacks : goal.returns-then-slot_lacks
-returns-then-slot_lacks c = search (things_hit kind.Subgraph, rules)
-
-pub loop-k-preserved : goal.loop-k-preserved
-loop-k-preserved c = (search rules, search (things_again kind.Subgraph, rules))
-
 pub returns : goal.returns
-returns c = search (things_done kind.Subgraph, rules)
+returns c =
+    things_searched kind.Subgraph c.args.image.now c.args.ts c.args.slots.now c.from-number.result _ _ c.requires c.from-number.ensures.0 c.first_found.ensures (λ k answer h e. search rules)

@@ -1,6 +1,6 @@
 -- `walk_edges` finds the first edge that touches a row which its listing lacks, or counts all runs. The loop's invariant: the search over the edges left
 -- finds what the whole search finds, and the runs so far with those left are all.
-use Prim.Native.Nat.{◌-◌, ◌≤◌}
+use Prim.Native.Nat.{◌≤◌}
 use mathlib.Core.Path.{◌≡◌}
 use Rattle.ground.specs.Judged.{first_bad}
 use Rattle.image.specs.declared.ElementKind.TheVariants as kind
@@ -11,7 +11,4 @@ use Rattle.listing.proofs.walk_edges.Given as goal
 
 abbrev pub invariant-loop-k : goal.invariant-loop-k
 invariant-loop-k l =
-    (l.k ≤ l.count) × (found_after kind.Edge l.image l.ts l.k ≡ first_bad (things_judged kind.Edge l.image l.ts)) × Counting l.image l.ts l.k l.runs
-
-abbrev pub decreases-loop-k : goal.decreases-loop-k
-decreases-loop-k l = l.count - l.k
+    (l.k ≤ l.ts.edges.count) × (found_after kind.Edge l.image l.ts l.k ≡ first_bad (things_judged kind.Edge l.image l.ts)) × Counting l.image l.ts l.k l.runs

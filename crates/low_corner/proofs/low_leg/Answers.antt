@@ -1,7 +1,6 @@
 -- `low_leg` finds the first leg that has a corner below 0, and tells where that lies. The invariant: what is found among the legs left is what is found
--- among all. The measure: how many are left.
+-- among all.
 use borrow.Author.Rules.{rules}
-use Prim.Native.Nat.{◌-◌}
 use Rattle.low_corner.proofs.Laws.{look_whole, look_hit, look_on, look_done}
 use Rattle.low_corner.proofs.low_leg.Goals as goal
 

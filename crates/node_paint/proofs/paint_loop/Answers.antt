@@ -7,5 +7,5 @@ returns-in_default c = no_loop _ _ _ _ _ c.in_default.is
 
 pub returns : goal.returns
 returns c =
-    rw c.in-At.is
+    rw c.in-Some.is
     (inked_at _ _ _ _ _ _ _ _ _ _ c.number.ensures.0 c.number-2.ensures.0 c.marker_at.ensures)

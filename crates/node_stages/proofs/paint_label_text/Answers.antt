@@ -16,7 +16,7 @@ paint_quoted-requires c =
 
 pub returns-then-paints_under : goal.returns-then-paints_under
 returns-then-paints_under c =
-    label_painted _ _ _ _ _ c.requires.0 _ _ _ _ _ c.placed_label_at-placed.ensures c.number.ensures.0 c.edge_at-edge.ensures _ _ _ c.header_of-header.ensures c.in-Present.is c.paints_under.ensures
+    label_painted _ _ _ _ _ c.requires.0 _ _ _ _ _ c.placed_label_at-placed.ensures c.number.ensures.0 c.edge_at-edge.ensures _ _ _ c.header_of-header.ensures c.in-Some.is c.paints_under.ensures
     _ _ _ _ c.if-paints_under.true c.number-x.ensures.0 c.number-y.ensures.0 c.span_words-glyphs.ensures c.paint_quoted.ensures
 
 pub returns-else-paints_under : goal.returns-else-paints_under

@@ -1,7 +1,5 @@
--- `orthogonal_reach` gives the rows of an Orthogonal path. The invariant: what is passed so far, with the points left, comes to all. The measure: how many
--- points are left.
+-- `orthogonal_reach` gives the rows of an Orthogonal path. The invariant: what is passed so far, with the points left, comes to all.
 use borrow.Author.Rules.{rules}
-use Prim.Native.Nat.{◌-◌}
 use Rattle.orthogonal_reach.proofs.Passing.{pass_begins, pass_turns, pass_ends}
 use Rattle.orthogonal_reach.proofs.orthogonal_reach.Goals as goal
 

@@ -1,10 +1,10 @@
--- `image_verdict` is the check's answer as a verdict.
+-- `image_verdict` is what the check comes to.
 use borrow.Author.Rules.{rules}
 use Rattle.paint.proofs.Laws.{image_refused, image_passed}
 use Rattle.paint.proofs.image_verdict.Goals as goal
 
-pub returns-then-answer-ne0 : goal.returns-then-answer-ne0
-returns-then-answer-ne0 c = image_refused _ _ c.check-answer.ensures c.if-answer-ne0.true
+pub returns-in-Ok : goal.returns-in-Ok
+returns-in-Ok c = search (image_passed, rules)
 
-pub returns : goal.returns
-returns c = search (image_passed, rules)
+pub returns-in-Err : goal.returns-in-Err
+returns-in-Err c = search (image_refused, rules)

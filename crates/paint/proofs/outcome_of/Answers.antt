@@ -2,10 +2,10 @@
 use Rattle.paint.specs.Outcome.{outcome_of}
 use Rattle.paint.proofs.outcome_of.Goals as goal
 
-pub returns-in-Passed : goal.returns-in-Passed
+pub returns-in-Ok : goal.returns-in-Ok
 unfolding outcome_of
-returns-in-Passed c = rw c.in-Passed.is
+returns-in-Ok c = rw c.in-Ok.is
 
-pub returns-in-Refused : goal.returns-in-Refused
+pub returns-in-Err : goal.returns-in-Err
 unfolding outcome_of
-returns-in-Refused c = rw c.in-Refused.is
+returns-in-Err c = rw c.in-Err.is

@@ -2,4 +2,4 @@
 use Rattle.records.proofs.bad_index.Goals as goal
 
 pub returns : goal.returns
-returns c = rw (c.below.ensures, c.thing_count-held.ensures, c.of-kind.ensures, c.word_inside.ensures)
+returns c = rw (c.below.ensures, c.thing_count-held.ensures, c.from-kind.ensures, c.word_inside.ensures)

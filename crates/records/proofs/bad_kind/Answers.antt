@@ -2,4 +2,4 @@
 use Rattle.records.proofs.bad_kind.Goals as goal
 
 pub returns : goal.returns
-returns c = rw (c.at_most.ensures, c.element_kind_number.ensures.0)
+returns c = rw (c.at_most.ensures, c.from.ensures.0)

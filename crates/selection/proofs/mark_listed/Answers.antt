@@ -2,14 +2,14 @@
 use borrow.Author.Rules.{rules}
 use Prim.Native.Nat.{◌-◌}
 use Rattle.ground.proofs.Turns.{turns_again}
-use Rattle.selection.proofs.Laws.{marked_length, marked_start, marked_end}
+use Rattle.selection.proofs.Laws.{marked_start, marked_end}
 use Rattle.selection.proofs.mark_listed.Goals as goal
 
 pub loop-k-init : goal.loop-k-init
-loop-k-init c = (search rules, search rules, marked_start _ _ _ _ _)
+loop-k-init c = marked_start _ _ _ _ _
 
 pub loop-k-preserved : goal.loop-k-preserved
-loop-k-preserved c = (search rules, search (marked_length, rules), search (turns_again, rules))
+loop-k-preserved c = search (turns_again, rules)
 
 pub returns : goal.returns
 returns c = search (marked_end, rules)

@@ -1,14 +1,10 @@
 -- `mark_listed` is a fresh selection. The invariant: the elements left mark what all mark.
-use Prim.Native.Nat.{◌-◌, ◌≤◌}
+use Prim.Native.Nat.{◌-◌}
 use mathlib.Core.Path.{◌≡◌}
-use lib.ListN.{length}
 use Rattle.ground.specs.Turns.{turns}
 use Rattle.selection.specs.Selection.{mark_element}
 use Rattle.selection.proofs.mark_listed.Given as goal
 
 abbrev pub invariant-loop-k : goal.invariant-loop-k
 invariant-loop-k l =
-    (l.k ≤ l.count) × (length l.marks ≡ length l.initial.marks) × (turns (mark_element l.image l.ts l.top) l.k (l.count - l.k) l.marks ≡ turns (mark_element l.image l.ts l.top) 0 l.count l.initial.marks)
-
-abbrev pub decreases-loop-k : goal.decreases-loop-k
-decreases-loop-k l = l.count - l.k
+    turns (mark_element l.image l.ts l.top) l.k (l.count - l.k) l.marks ≡ turns (mark_element l.image l.ts l.top) 0 l.count l.initial.marks

@@ -1,50 +1,26 @@
--- `put_decimal` meets its contract.
+-- `put_decimal` stores the digits of a number, by how many it has.
 use borrow.Author.Rules.{rules}
-use lib.ListN.{length-set}
-use Rattle.sequence.proofs.Laws.{fits_one, fits_two, fits_three, one_put, two_put, three_put}
+use Rattle.sequence.proofs.Laws.{one_digit, two_digits, three_digits}
 use Rattle.sequence.proofs.put_decimal.Goals as goal
 
-pub bounds-out-at : goal.bounds-out-at
-bounds-out-at c =
-    let room = fits_one c.args.out.now c.args.at c.args.n (search rules) (search rules) in
-    search rules
+pub put_bytes-requires : goal.put_bytes-requires
+put_bytes-requires c = (search rules, rw (one_digit _ c.if-n-lt10.true) at c.requires.1)
 
-pub bounds-out-at-then-n-lt100 : goal.bounds-out-at-then-n-lt100
-bounds-out-at-then-n-lt100 c =
-    let room = fits_two c.args.out.now c.args.at c.args.n (search rules) (search rules) (search rules) in
-    search rules
+pub put_bytes-requires-then-n-lt100 : goal.put_bytes-requires-then-n-lt100
+put_bytes-requires-then-n-lt100 c = (search rules, rw (two_digits _ c.if-n-lt10.false c.if-n-lt100.true) at c.requires.1)
 
-pub bounds-out-at-then-n-lt100-2 : goal.bounds-out-at-then-n-lt100-2
-bounds-out-at-then-n-lt100-2 c =
-    let room = fits_two c.args.out.now c.args.at c.args.n (search rules) (search rules) (search rules) in
-    simp length-set (search rules)
-
-pub bounds-out-at-2 : goal.bounds-out-at-2
-bounds-out-at-2 c =
-    let room = fits_three c.args.out.now c.args.at c.args.n (search rules) (search rules) in
-    search rules
-
-pub bounds-out-at-3 : goal.bounds-out-at-3
-bounds-out-at-3 c =
-    let room = fits_three c.args.out.now c.args.at c.args.n (search rules) (search rules) in
-    simp length-set (search rules)
-
-pub bounds-out-at-4 : goal.bounds-out-at-4
-bounds-out-at-4 c =
-    let room = fits_three c.args.out.now c.args.at c.args.n (search rules) (search rules) in
-    simp length-set (search rules)
+pub put_bytes-requires-2 : goal.put_bytes-requires-2
+put_bytes-requires-2 c = (search rules, rw (three_digits _ c.if-n-lt100.false) at c.requires.1)
 
 pub returns-then-n-lt10 : goal.returns-then-n-lt10
-returns-then-n-lt10 c =
-    let p = one_put c.args.out.now c.args.at c.args.n c.requires.1 c.digit.result c.digit.ensures c.if-n-lt10.true in
-    record { value = p.0; out_after = p.1 }
+returns-then-n-lt10 c = rw (one_digit _ c.if-n-lt10.true, ← c.digit.ensures) c.put_bytes.ensures
 
 pub returns-then-n-lt100 : goal.returns-then-n-lt100
 returns-then-n-lt100 c =
-    let p = two_put c.args.out.now c.args.at c.args.n c.requires.1 c.digit-then-n-lt100.result c.digit-then-n-lt100-2.result c.digit-then-n-lt100.ensures c.digit-then-n-lt100-2.ensures c.if-n-lt10.false c.if-n-lt100.true in
-    record { value = p.0; out_after = p.1 }
+    rw (two_digits _ c.if-n-lt10.false c.if-n-lt100.true, ← c.digit-then-n-lt100.ensures, ← c.digit-then-n-lt100-2.ensures)
+    c.put_bytes-then-n-lt100.ensures
 
 pub returns : goal.returns
 returns c =
-    let p = three_put c.args.out.now c.args.at c.args.n c.requires.1 c.digit-2.result c.digit-3.result c.digit-4.result c.digit-2.ensures c.digit-3.ensures c.digit-4.ensures c.if-n-lt100.false in
-    record { value = p.0; out_after = p.1 }
+    rw (three_digits _ c.if-n-lt100.false, ← c.digit-2.ensures, ← c.digit-3.ensures, ← c.digit-4.ensures)
+    c.put_bytes-2.ensures

@@ -1,7 +1,7 @@
 -- `shape_of` gives what a cell is written as.
 use mathlib.Core.Path.{refl, ap}
 use Rattle.cell.specs.OneCell.{read}
-use Rattle.shapes.specs.declared.Shape.TheVariants.{Character}
+use Rattle.std.specs.Prelude.{Some}
 use Rattle.shapes.specs.Shapes.{shape_of}
 use Rattle.shapes.proofs.Laws.{written_as, empty_written}
 use Rattle.shapes.proofs.shape_of.Goals as goal
@@ -27,8 +27,8 @@ returns-in-Continuation c = written_as _ _ _ _ c.read-parts.ensures c.in-Continu
 
 pub returns-in-Stroke : goal.returns-in-Stroke
 unfolding shape_of
-returns-in-Stroke c = written_as _ _ _ _ c.read-parts.ensures c.in-Stroke.is (ap Character c.stroke_shape-in-Stroke.ensures)
+returns-in-Stroke c = written_as _ _ _ _ c.read-parts.ensures c.in-Stroke.is (ap Some c.stroke_shape-in-Stroke.ensures)
 
 pub returns-in-Marker : goal.returns-in-Marker
 unfolding shape_of
-returns-in-Marker c = written_as _ _ _ _ c.read-parts.ensures c.in-Marker.is (ap Character c.marker_shape.ensures)
+returns-in-Marker c = written_as _ _ _ _ c.read-parts.ensures c.in-Marker.is (ap Some c.marker_shape.ensures)

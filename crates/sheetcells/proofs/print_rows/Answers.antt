@@ -1,6 +1,5 @@
--- `print_rows` ends: the measure is how many rows are left. The invariant: the lent buffers keep their lengths.
+-- `print_rows` ends: the measure is how many rows are left. The invariant: no row past the last is painted.
 use borrow.Author.Rules.{rules}
-use Prim.Native.Nat.{◌-◌}
 use Rattle.sheetcells.proofs.print_rows.Goals as goal
 
 pub print_band-requires-clause-keeps : goal.print_band-requires-clause-keeps

@@ -8,5 +8,5 @@ use Rattle.sheetcheck.proofs.report_input.Goals as goal
 pub slice_bounds-report-end : goal.slice_bounds-report-end
 slice_bounds-report-end g c = search (words_within, rules)
 
-pub slice_bounds-report-end-in-Words : goal.slice_bounds-report-end-in-Words
-slice_bounds-report-end-in-Words g c = sym (length-take-le _ _ (search (words_within, rules)))
+pub slice_bounds-report-end-in-Ok : goal.slice_bounds-report-end-in-Ok
+slice_bounds-report-end-in-Ok g c = sym (length-take-le _ _ (search (words_within, rules)))

@@ -1,12 +1,8 @@
 -- `count_until` counts the glyphs before the closing column. The invariant: those looked at, and those ahead that come before it, are all that do.
 use Prim.Native.Nat.{◌+◌, ◌-◌, ◌*◌, ◌≤◌}
-use lib.ListN.{length}
 use Rattle.text.proofs.Laws.{Counted}
 use Rattle.text.proofs.count_until.Given as goal
 
 abbrev pub invariant-loop-k : goal.invariant-loop-k
 invariant-loop-k l =
-    (l.k ≤ length l.glyphs) × (l.column ≤ l.x + 2 * l.k) × Counted l.ranges l.close l.x l.glyphs l.k l.column
-
-abbrev pub decreases-loop-k : goal.decreases-loop-k
-decreases-loop-k l = length l.glyphs - l.k
+    (l.column ≤ l.x + 2 * l.k) × Counted l.ranges l.close l.x l.glyphs l.k l.column

@@ -1,75 +1,35 @@
--- `put` meets its contract.
+-- `put` stores the bytes of a character, by how many it takes.
 use borrow.Author.Rules.{rules}
-use lib.ListN.{length-set}
-use Rattle.utf8.proofs.Laws.{fits_one, fits_two, fits_three, fits_four, one_stored, two_stored, three_stored, four_stored}
+use Rattle.utf8.proofs.Laws.{one_byte, two_bytes, three_bytes, four_bytes}
 use Rattle.utf8.proofs.put.Goals as goal
 
-pub bounds-out-at : goal.bounds-out-at
-bounds-out-at c =
-    let room = fits_one c.args.out.now c.args.at c.args.ch (search rules) (search rules) in
-    search rules
+pub put_bytes-requires : goal.put_bytes-requires
+put_bytes-requires c = (search rules, rw (one_byte _ c.if-ch-lt-TWO_BYTES.true) at c.requires.1)
 
-pub bounds-out-at-then-ch-lt2048 : goal.bounds-out-at-then-ch-lt2048
-bounds-out-at-then-ch-lt2048 c =
-    let room = fits_two c.args.out.now c.args.at c.args.ch (search rules) (search rules) (search rules) in
-    search rules
+pub put_bytes-requires-then-ch-lt-THREE_BYTES : goal.put_bytes-requires-then-ch-lt-THREE_BYTES
+put_bytes-requires-then-ch-lt-THREE_BYTES c = (search rules, rw (two_bytes _ c.if-ch-lt-TWO_BYTES.false c.if-ch-lt-THREE_BYTES.true) at c.requires.1)
 
-pub bounds-out-at-then-ch-lt2048-2 : goal.bounds-out-at-then-ch-lt2048-2
-bounds-out-at-then-ch-lt2048-2 c =
-    let room = fits_two c.args.out.now c.args.at c.args.ch (search rules) (search rules) (search rules) in
-    simp length-set (search rules)
+pub put_bytes-requires-then-ch-lt-FOUR_BYTES : goal.put_bytes-requires-then-ch-lt-FOUR_BYTES
+put_bytes-requires-then-ch-lt-FOUR_BYTES c = (search rules, rw (three_bytes _ c.if-ch-lt-THREE_BYTES.false c.if-ch-lt-FOUR_BYTES.true) at c.requires.1)
 
-pub bounds-out-at-then-ch-lt65536 : goal.bounds-out-at-then-ch-lt65536
-bounds-out-at-then-ch-lt65536 c =
-    let room = fits_three c.args.out.now c.args.at c.args.ch (search rules) (search rules) (search rules) in
-    search rules
+pub put_bytes-requires-2 : goal.put_bytes-requires-2
+put_bytes-requires-2 c = (search rules, rw (four_bytes _ c.if-ch-lt-FOUR_BYTES.false) at c.requires.1)
 
-pub bounds-out-at-then-ch-lt65536-2 : goal.bounds-out-at-then-ch-lt65536-2
-bounds-out-at-then-ch-lt65536-2 c =
-    let room = fits_three c.args.out.now c.args.at c.args.ch (search rules) (search rules) (search rules) in
-    simp length-set (search rules)
+pub returns-then-ch-lt-TWO_BYTES : goal.returns-then-ch-lt-TWO_BYTES
+returns-then-ch-lt-TWO_BYTES c =
+    rw (one_byte _ c.if-ch-lt-TWO_BYTES.true, ← c.byte.ensures) c.put_bytes.ensures
 
-pub bounds-out-at-then-ch-lt65536-3 : goal.bounds-out-at-then-ch-lt65536-3
-bounds-out-at-then-ch-lt65536-3 c =
-    let room = fits_three c.args.out.now c.args.at c.args.ch (search rules) (search rules) (search rules) in
-    simp length-set (search rules)
+pub returns-then-ch-lt-THREE_BYTES : goal.returns-then-ch-lt-THREE_BYTES
+returns-then-ch-lt-THREE_BYTES c =
+    rw (two_bytes _ c.if-ch-lt-TWO_BYTES.false c.if-ch-lt-THREE_BYTES.true, ← c.byte-then-ch-lt-THREE_BYTES.ensures, ← c.tail.ensures)
+    c.put_bytes-then-ch-lt-THREE_BYTES.ensures
 
-pub bounds-out-at-2 : goal.bounds-out-at-2
-bounds-out-at-2 c =
-    let room = fits_four c.args.out.now c.args.at c.args.ch (search rules) (search rules) in
-    search rules
-
-pub bounds-out-at-3 : goal.bounds-out-at-3
-bounds-out-at-3 c =
-    let room = fits_four c.args.out.now c.args.at c.args.ch (search rules) (search rules) in
-    simp length-set (search rules)
-
-pub bounds-out-at-4 : goal.bounds-out-at-4
-bounds-out-at-4 c =
-    let room = fits_four c.args.out.now c.args.at c.args.ch (search rules) (search rules) in
-    simp length-set (search rules)
-
-pub bounds-out-at-5 : goal.bounds-out-at-5
-bounds-out-at-5 c =
-    let room = fits_four c.args.out.now c.args.at c.args.ch (search rules) (search rules) in
-    simp length-set (search rules)
-
-pub returns-then-ch-lt128 : goal.returns-then-ch-lt128
-returns-then-ch-lt128 c =
-    let p = one_stored c.args.out.now c.args.at c.args.ch c.requires.1 c.byte.result c.byte.ensures c.if-ch-lt128.true in
-    record { value = p.0; out_after = p.1 }
-
-pub returns-then-ch-lt2048 : goal.returns-then-ch-lt2048
-returns-then-ch-lt2048 c =
-    let p = two_stored c.args.out.now c.args.at c.args.ch c.requires.1 c.byte-then-ch-lt2048.result c.byte-then-ch-lt2048-2.result c.byte-then-ch-lt2048.ensures c.byte-then-ch-lt2048-2.ensures c.if-ch-lt128.false c.if-ch-lt2048.true in
-    record { value = p.0; out_after = p.1 }
-
-pub returns-then-ch-lt65536 : goal.returns-then-ch-lt65536
-returns-then-ch-lt65536 c =
-    let p = three_stored c.args.out.now c.args.at c.args.ch c.requires.1 c.byte-then-ch-lt65536.result c.byte-then-ch-lt65536-2.result c.byte-then-ch-lt65536-3.result c.byte-then-ch-lt65536.ensures c.byte-then-ch-lt65536-2.ensures c.byte-then-ch-lt65536-3.ensures c.if-ch-lt2048.false c.if-ch-lt65536.true in
-    record { value = p.0; out_after = p.1 }
+pub returns-then-ch-lt-FOUR_BYTES : goal.returns-then-ch-lt-FOUR_BYTES
+returns-then-ch-lt-FOUR_BYTES c =
+    rw (three_bytes _ c.if-ch-lt-THREE_BYTES.false c.if-ch-lt-FOUR_BYTES.true, ← c.byte-then-ch-lt-FOUR_BYTES.ensures, ← c.tail-then-ch-lt-FOUR_BYTES.ensures, ← c.tail-then-ch-lt-FOUR_BYTES-2.ensures)
+    c.put_bytes-then-ch-lt-FOUR_BYTES.ensures
 
 pub returns : goal.returns
 returns c =
-    let p = four_stored c.args.out.now c.args.at c.args.ch c.requires.1 c.byte-2.result c.byte-3.result c.byte-4.result c.byte-5.result c.byte-2.ensures c.byte-3.ensures c.byte-4.ensures c.byte-5.ensures c.if-ch-lt65536.false in
-    record { value = p.0; out_after = p.1 }
+    rw (four_bytes _ c.if-ch-lt-FOUR_BYTES.false, ← c.byte-2.ensures, ← c.tail-2.ensures, ← c.tail-3.ensures, ← c.tail-4.ensures)
+    c.put_bytes-2.ensures

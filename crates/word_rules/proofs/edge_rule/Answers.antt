@@ -32,12 +32,12 @@ returns-in-9 c = search (rule_count, rules)
 
 pub returns-in-10 : goal.returns-in-10
 unfolding edge_rule
-returns-in-10 c = rw c.in-10.is
-
-pub returns-in-11 : goal.returns-in-11
-unfolding edge_rule
-returns-in-11 c = rw c.in-11.is
+returns-in-10 c = grind (arith, common_steps)
 
 pub returns-in_default : goal.returns-in_default
 unfolding edge_rule
 returns-in_default c = grind (arith, common_steps)
+
+pub returns-in_default-2 : goal.returns-in_default-2
+unfolding edge_rule
+returns-in_default-2 c = grind (arith, common_steps)

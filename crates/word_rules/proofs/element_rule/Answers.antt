@@ -10,7 +10,7 @@ returns-in-0 c = rw c.in-0.is
 
 pub returns-in-1 : goal.returns-in-1
 unfolding element_rule
-returns-in-1 c = rw (c.index_rule.ensures, c.of.ensures, c.in-1.is)
+returns-in-1 c = rw (c.index_rule.ensures, c.from.ensures, c.in-1.is)
 
 pub returns-in_default : goal.returns-in_default
 unfolding element_rule

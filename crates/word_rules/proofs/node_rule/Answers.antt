@@ -18,12 +18,12 @@ returns-in-6 c = rw c.in-6.is
 
 pub returns-in-7 : goal.returns-in-7
 unfolding node_rule
-returns-in-7 c = rw (c.loop_rule.ensures, c.word-in-7.ensures, c.in-7.is)
-
-pub returns-in-8 : goal.returns-in-8
-unfolding node_rule
-returns-in-8 c = rw (c.loop_rule-in-8.ensures, c.word-in-8.ensures, c.in-8.is)
+returns-in-7 c = rw (c.loop_rule.ensures, c.word-in-7.ensures) (grind (arith, common_steps))
 
 pub returns-in_default : goal.returns-in_default
 unfolding node_rule
 returns-in_default c = grind (arith, common_steps)
+
+pub returns-in_default-2 : goal.returns-in_default-2
+unfolding node_rule
+returns-in_default-2 c = grind (arith, common_steps)

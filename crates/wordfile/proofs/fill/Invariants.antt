@@ -7,7 +7,4 @@ use Rattle.wordfile.proofs.fill.Given as goal
 
 abbrev pub invariant-loop-k : goal.invariant-loop-k
 invariant-loop-k l =
-    (l.count ≤ length l.bytes / 4) × (l.count ≤ length l.initial.words) × (length l.words ≡ length l.initial.words) × (filled l.bytes l.words l.k (l.count - l.k) ≡ filled l.bytes l.initial.words 0 l.count)
-
-abbrev pub decreases-loop-k : goal.decreases-loop-k
-decreases-loop-k l = l.count - l.k
+    (l.count ≤ length l.bytes / 4) × (l.count ≤ length l.initial.words) × (filled l.bytes l.words l.k (l.count - l.k) ≡ filled l.bytes l.initial.words 0 l.count)

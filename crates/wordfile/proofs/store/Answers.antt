@@ -1,6 +1,5 @@
 -- `store` stores the words as bytes. The invariant: the words left to store make of the bytes now what all of them make of the bytes at first.
 use borrow.Author.Rules.{rules}
-use Prim.Native.Nat.{◌-◌}
 use Rattle.ground.proofs.Turns.{turns_again}
 use Rattle.wordfile.proofs.Laws.{none_stored, all_stored}
 use Rattle.wordfile.proofs.store.Goals as goal

@@ -7,7 +7,4 @@ use Rattle.wordfile.specs.Words.{with_word, stored}
 use Rattle.wordfile.proofs.store.Given as goal
 
 abbrev pub invariant-loop-k : goal.invariant-loop-k
-invariant-loop-k l = (l.count ≤ length l.words) × (4 * l.count ≤ length l.initial.bytes) × (length l.bytes ≡ length l.initial.bytes) × (turns (λ k bs. with_word bs k (get_or l.words k 0)) l.k (l.count - l.k) l.bytes ≡ stored l.words l.count l.initial.bytes)
-
-abbrev pub decreases-loop-k : goal.decreases-loop-k
-decreases-loop-k l = l.count - l.k
+invariant-loop-k l = (l.count ≤ length l.words) × (4 * l.count ≤ length l.initial.bytes) × (turns (λ k bs. with_word bs k (get_or l.words k 0)) l.k (l.count - l.k) l.bytes ≡ stored l.words l.count l.initial.bytes)

@@ -10,10 +10,10 @@ pub returns-in_default : goal.returns-in_default
 returns-in_default c = below_leg _ _ _ _ _ _ c.if-leg.false c.corner_column-corner.ensures.0 _ c.in_default.is
 
 pub leg_bend-v-requires : goal.leg_bend-v-requires
-leg_bend-v-requires c = (c.requires.1, corner_small _ _ c.in-At.is c.corner_column-corner.ensures.1)
+leg_bend-v-requires c = (c.requires.1, corner_small _ _ c.in-Some.is c.corner_column-corner.ensures.1)
 
 pub returns : goal.returns
-returns c = bent_leg _ _ _ _ _ _ c.if-leg.false c.corner_column-corner.ensures.0 _ _ _ _ _ _ c.in-At.is c.requires.2 c.sign-s.ensures c.leg_bend-v.ensures.0 c.draw_bent.ensures
+returns c = bent_leg _ _ _ _ _ _ c.if-leg.false c.corner_column-corner.ensures.0 _ _ _ _ _ _ c.in-Some.is c.requires.2 c.sign-s.ensures c.leg_bend-v.ensures.0 c.draw_bent.ensures
 
 pub shape_of-cells-then-leg : goal.shape_of-cells-then-leg
 shape_of-cells-then-leg c = c.cells-1.given

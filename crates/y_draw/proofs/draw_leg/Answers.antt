@@ -11,7 +11,7 @@ pub returns-in_default : goal.returns-in_default
 returns-in_default c = search (below_leg, rules)
 
 pub leg_bend-v-requires : goal.leg_bend-v-requires
-leg_bend-v-requires c = (c.requires.1, corner_small _ _ c.in-At.is c.corner_row-corner.ensures.1)
+leg_bend-v-requires c = (c.requires.1, corner_small _ _ c.in-Some.is c.corner_row-corner.ensures.1)
 
 pub returns : goal.returns
-returns c = bent_leg _ _ _ _ _ _ c.if-leg.false c.corner_row-corner.ensures.0 _ _ _ _ _ c.in-At.is c.sign-s.ensures c.leg_bend-v.ensures.0 c.requires.2 c.draw_bent.ensures
+returns c = bent_leg _ _ _ _ _ _ c.if-leg.false c.corner_row-corner.ensures.0 _ _ _ _ _ c.in-Some.is c.sign-s.ensures c.leg_bend-v.ensures.0 c.requires.2 c.draw_bent.ensures

@@ -6,8 +6,8 @@ pub returns : goal.returns
 unfolding read_arms
 returns c =
     rw (
-      c.from_bits.ensures,
-      c.from_bits-2.ensures,
-      c.from_bits-3.ensures,
-      c.from_bits-4.ensures,
+      c.from.ensures,
+      c.from-2.ensures,
+      c.from-3.ensures,
+      c.from-4.ensures,
     )

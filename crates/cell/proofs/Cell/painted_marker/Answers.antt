@@ -4,4 +4,4 @@ use Rattle.cell.proofs.Cell.painted_marker.Goals as goal
 
 pub returns : goal.returns
 unfolding painted_marker
-returns c = rw (c.pack.ensures, c.marked-parts.ensures, c.read-old.ensures)
+returns c = rw (c.pack.ensures, c.marked.ensures, c.read.ensures)

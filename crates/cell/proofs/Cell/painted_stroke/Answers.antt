@@ -4,4 +4,4 @@ use Rattle.cell.proofs.Cell.painted_stroke.Goals as goal
 
 pub returns : goal.returns
 unfolding painted_stroke
-returns c = rw (c.pack.ensures, c.stroked-parts.ensures, c.read-old.ensures)
+returns c = rw (c.pack.ensures, c.stroked.ensures, c.read.ensures)

@@ -2,4 +2,4 @@
 use Rattle.frame.proofs.nodes.loop_rows.Goals as goal
 
 pub returns : goal.returns
-returns c = rw (c.row_at.ensures, c.in-At.is)
+returns c = rw (c.row_at.ensures, c.in-Some.is)

@@ -1,7 +1,5 @@
 -- `arrows_down` puts a line into a column, in rows of the window. The loop's invariant is the work left.
-use Prim.Native.Nat.{◌≤◌, ◌-◌}
 use mathlib.Core.Path.{◌≡◌}
-use lib.ListN.{length}
 use Rattle.cell.specs.OneCell.{read_arms}
 use Rattle.window.specs.Writes.{ink_on}
 use Rattle.window.specs.Computed.{on_rows}
@@ -11,10 +9,5 @@ use Rattle.lines.proofs.cells.arrows_down.Given as goal
 
 abbrev pub invariant-loop-y : goal.invariant-loop-y
 invariant-loop-y l =
-    (length l.cells ≡ length l.initial.cells)
-    × (l.first ≤ l.y)
-    × (on_rows (window l.width l.first l.rows) l.y l.end (λ k. ink_on l.ranges l.x (ink_at (read_arms l.word) l.dashed l.winner l.other k)) l.cells
-    ≡ on_rows (window l.width l.first l.rows) l.from l.end (λ k. ink_on l.ranges l.x (ink_at (read_arms l.word) l.dashed l.winner l.other k)) l.initial.cells)
-
-abbrev pub decreases-loop-y : goal.decreases-loop-y
-decreases-loop-y l = l.end - l.y
+    on_rows (window l.width l.first l.rows) l.y l.end (λ k. ink_on l.ranges l.x (ink_at (read_arms l.word) l.dashed l.winner l.other k)) l.cells
+    ≡ on_rows (window l.width l.first l.rows) l.from l.end (λ k. ink_on l.ranges l.x (ink_at (read_arms l.word) l.dashed l.winner l.other k)) l.initial.cells

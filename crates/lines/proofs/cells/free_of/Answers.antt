@@ -8,8 +8,8 @@ pub returns-in-None : goal.returns-in-None
 unfolding free_of
 returns-in-None c = search rules
 
-pub returns-then-n-low : goal.returns-then-n-low
-returns-then-n-low c = search (free_before, rules)
+pub returns-then-h-low : goal.returns-then-h-low
+returns-then-h-low c = search (free_before, rules)
 
-pub returns-else-n-low : goal.returns-else-n-low
-returns-else-n-low c = search (free_after, rules)
+pub returns-else-h-low : goal.returns-else-h-low
+returns-else-h-low c = search (free_after, rules)

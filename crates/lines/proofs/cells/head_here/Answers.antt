@@ -8,5 +8,5 @@ pub returns-in-None : goal.returns-in-None
 unfolding head_here
 returns-in-None c = search rules
 
-pub returns-in-At : goal.returns-in-At
-returns-in-At c = search (here_at, rules)
+pub returns-in-Some : goal.returns-in-Some
+returns-in-Some c = search (here_at, rules)

@@ -1,7 +1,6 @@
 -- `strokes_along` puts strokes into columns of a row. The loop's invariant is the work left.
 use Prim.Native.Nat.{◌-◌}
 use mathlib.Core.Path.{◌≡◌}
-use lib.ListN.{length}
 use Rattle.ground.specs.Turns.{turns}
 use Rattle.cell.specs.OneCell.{read_arms}
 use Rattle.rows.specs.Spots.{stroke}
@@ -10,9 +9,5 @@ use Rattle.lines.proofs.cells.strokes_along.Given as goal
 
 abbrev pub invariant-loop-x : goal.invariant-loop-x
 invariant-loop-x l =
-    (length l.row ≡ length l.initial.row)
-    × (turns (λ k. ink_on l.ranges k (stroke (read_arms l.word))) l.x (l.end - l.x) l.row
-    ≡ turns (λ k. ink_on l.ranges k (stroke (read_arms l.word))) l.low (l.end - l.low) l.initial.row)
-
-abbrev pub decreases-loop-x : goal.decreases-loop-x
-decreases-loop-x l = l.end - l.x
+    turns (λ k. ink_on l.ranges k (stroke (read_arms l.word))) l.x (l.end - l.x) l.row
+    ≡ turns (λ k. ink_on l.ranges k (stroke (read_arms l.word))) l.low (l.end - l.low) l.initial.row

@@ -1,7 +1,5 @@
 -- `strokes_down` puts strokes into a column, in rows of the window. The loop's invariant is the work left.
-use Prim.Native.Nat.{◌≤◌, ◌-◌}
 use mathlib.Core.Path.{◌≡◌}
-use lib.ListN.{length}
 use Rattle.cell.specs.OneCell.{read_arms}
 use Rattle.rows.specs.Spots.{stroke}
 use Rattle.window.specs.Writes.{ink_on}
@@ -11,10 +9,5 @@ use Rattle.lines.proofs.cells.strokes_down.Given as goal
 
 abbrev pub invariant-loop-y : goal.invariant-loop-y
 invariant-loop-y l =
-    (length l.cells ≡ length l.initial.cells)
-    × (l.first ≤ l.y)
-    × (on_rows (window l.width l.first l.rows) l.y l.end (λ k. ink_on l.ranges l.x (stroke (read_arms l.word))) l.cells
-    ≡ on_rows (window l.width l.first l.rows) l.from l.end (λ k. ink_on l.ranges l.x (stroke (read_arms l.word))) l.initial.cells)
-
-abbrev pub decreases-loop-y : goal.decreases-loop-y
-decreases-loop-y l = l.end - l.y
+    on_rows (window l.width l.first l.rows) l.y l.end (λ k. ink_on l.ranges l.x (stroke (read_arms l.word))) l.cells
+    ≡ on_rows (window l.width l.first l.rows) l.from l.end (λ k. ink_on l.ranges l.x (stroke (read_arms l.word))) l.initial.cells

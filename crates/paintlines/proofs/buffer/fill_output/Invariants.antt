@@ -1,14 +1,11 @@
 -- `fill_output` fills the output with its pattern. The invariant: the bytes passed are filled, and all beyond them is as at first.
-use Prim.Native.Nat.{◌+◌, ◌-◌, ◌%◌, ◌≤◌}
+use Prim.Native.Nat.{◌+◌, ◌%◌}
 use mathlib.Core.List.{◌++◌, map}
 use mathlib.Core.Path.{◌≡◌}
-use lib.ListN.{length, drop}
+use lib.ListN.{drop}
 use Rattle.ground.specs.Each.{numbers}
 use Rattle.paintlines.proofs.buffer.fill_output.Given as goal
 
 abbrev pub invariant-loop-k : goal.invariant-loop-k
 invariant-loop-k l =
-    (l.k ≤ length l.initial.out) × (length l.out ≡ length l.initial.out) × (l.out ≡ map (λ i. (0x50 + i) % 256) (numbers 0 l.k) ++ drop l.k l.initial.out)
-
-abbrev pub decreases-loop-k : goal.decreases-loop-k
-decreases-loop-k l = length l.initial.out - l.k
+    l.out ≡ map (λ i. (0x50 + i) % 256) (numbers 0 l.k) ++ drop l.k l.initial.out

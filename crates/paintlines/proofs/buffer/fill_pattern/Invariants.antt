@@ -1,14 +1,11 @@
 -- `fill_pattern` fills a buffer with its pattern. The invariant: the words passed are filled, and all beyond them is as at first.
-use Prim.Native.Nat.{◌+◌, ◌-◌, ◌≤◌}
+use Prim.Native.Nat.{◌+◌}
 use mathlib.Core.List.{◌++◌, map}
 use mathlib.Core.Path.{◌≡◌}
-use lib.ListN.{length, drop}
+use lib.ListN.{drop}
 use Rattle.ground.specs.Each.{numbers}
 use Rattle.paintlines.proofs.buffer.fill_pattern.Given as goal
 
 abbrev pub invariant-loop-k : goal.invariant-loop-k
 invariant-loop-k l =
-    (l.k ≤ length l.initial.lent) × (length l.lent ≡ length l.initial.lent) × (l.lent ≡ map (λ i. l.start + i) (numbers 0 l.k) ++ drop l.k l.initial.lent)
-
-abbrev pub decreases-loop-k : goal.decreases-loop-k
-decreases-loop-k l = length l.initial.lent - l.k
+    l.lent ≡ map (λ i. l.start + i) (numbers 0 l.k) ++ drop l.k l.initial.lent

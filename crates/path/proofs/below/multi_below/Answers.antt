@@ -1,7 +1,5 @@
--- `multi_below` says whether some leg has a corner below 0. The invariant: what is found of the legs left is what is found of all. The measure: how many
--- points are left.
+-- `multi_below` says whether some leg has a corner below 0. The invariant: what is found of the legs left is what is found of all.
 use borrow.Author.Rules.{rules}
-use Prim.Native.Nat.{◌-◌}
 use Rattle.path.proofs.Multi.{look_begins, look_finds, look_turns, look_ends}
 use Rattle.path.proofs.below.multi_below.Goals as goal
 

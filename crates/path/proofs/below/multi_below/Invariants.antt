@@ -1,11 +1,6 @@
--- `multi_below` says whether some leg has a corner below 0. The invariant: what is found of the legs left is what is found of all. The measure: how many
--- points are left.
-use Prim.Native.Nat.{◌-◌}
+-- `multi_below` says whether some leg has a corner below 0. The invariant: what is found of the legs left is what is found of all.
 use Rattle.path.proofs.Multi.{LookedTo}
 use Rattle.path.proofs.below.multi_below.Given as goal
 
 abbrev pub invariant-loop-k : goal.invariant-loop-k
 invariant-loop-k l = LookedTo l.e l.offset l.points l.a l.k
-
-abbrev pub decreases-loop-k : goal.decreases-loop-k
-decreases-loop-k l = l.count - l.k

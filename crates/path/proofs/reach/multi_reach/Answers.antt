@@ -1,7 +1,5 @@
--- `multi_reach` gives what a MultiSegment reaches, leg by leg. The invariant: what is reached, with the legs left, is all. The measure: how many points are
--- left.
+-- `multi_reach` gives what a MultiSegment reaches, leg by leg. The invariant: what is reached, with the legs left, is all.
 use borrow.Author.Rules.{rules}
-use Prim.Native.Nat.{◌-◌}
 use Rattle.path.proofs.Multi.{reach_begins, reach_turns, reach_ends}
 use Rattle.path.proofs.reach.multi_reach.Goals as goal
 

@@ -5,9 +5,9 @@ use Rattle.rows.specs.Window.{in_window}
 use Rattle.rows.proofs.Windows.{in_window_lem}
 use Rattle.rows.proofs.Window.has.Goals as goal
 
-pub returns-then-top-y : goal.returns-then-top-y
-returns-then-top-y c = in_window_lem _ _ (search rules)
+pub returns-then-self-y : goal.returns-then-self-y
+returns-then-self-y c = in_window_lem _ _ (search rules)
 
-pub returns-else-top-y : goal.returns-else-top-y
+pub returns-else-self-y : goal.returns-else-self-y
 unfolding in_window
-returns-else-top-y c = rw (lt-leb _ _ c.if-top-y.false)
+returns-else-self-y c = rw (lt-leb _ _ c.if-self-y.false)

@@ -6,7 +6,7 @@ use Rattle.runs.proofs.cover.ink_column.Goals as goal
 
 pub returns-then-weight-ne0 : goal.returns-then-weight-ne0
 returns-then-weight-ne0 c =
-    ink_here _ _ _ _ _ _ _ (search rules) c.from_bits.ensures c.horizontal-arms.ensures
+    ink_here _ _ _ _ _ _ _ (search rules) c.from.ensures c.horizontal-arms.ensures
     (same_stroke _ _ _ _ _ _ c.stroke_word.ensures.1 c.stroke.ensures)
 
 pub returns-else-weight-ne0 : goal.returns-else-weight-ne0

@@ -7,7 +7,7 @@ use Rattle.runs.specs.Runs.{ink_column}
 use Rattle.runs.proofs.cover.ink_columns.Goals as goal
 
 pub loop-x-preserved : goal.loop-x-preserved
-loop-x-preserved c = (search rules, turns_again _ _ _ _ _ _ (search rules) c.loop-x.invariant.1 c.ink_column.ensures)
+loop-x-preserved c = turns_again _ _ _ _ _ _ (search rules) c.loop-x.invariant c.ink_column.ensures
 
 pub returns : goal.returns
-returns c = turns_done _ _ _ _ _ c.loop-x-test.false c.loop-x.invariant.1
+returns c = turns_done _ _ _ _ _ c.loop-x-test.false c.loop-x.invariant

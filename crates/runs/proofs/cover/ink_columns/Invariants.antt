@@ -2,16 +2,12 @@
 -- columns are left.
 use Prim.Native.Nat.{◌-◌}
 use mathlib.Core.Path.{◌≡◌}
-use lib.ListN.{length, get_or}
+use lib.ListN.{get_or}
 use Rattle.ground.specs.Turns.{turns}
 use Rattle.runs.specs.Runs.{ink_column}
 use Rattle.runs.proofs.cover.ink_columns.Given as goal
 
 abbrev pub invariant-loop-x : goal.invariant-loop-x
 invariant-loop-x l =
-    (length l.row ≡ length l.initial.row)
-    × (turns (λ k. ink_column l.ranges (get_or l.cover k 0) k) l.x (l.high - l.x) l.row
-    ≡ turns (λ k. ink_column l.ranges (get_or l.cover k 0) k) l.low (l.high - l.low) l.initial.row)
-
-abbrev pub decreases-loop-x : goal.decreases-loop-x
-decreases-loop-x l = l.high - l.x
+    turns (λ k. ink_column l.ranges (get_or l.cover k 0) k) l.x (l.high - l.x) l.row
+    ≡ turns (λ k. ink_column l.ranges (get_or l.cover k 0) k) l.low (l.high - l.low) l.initial.row

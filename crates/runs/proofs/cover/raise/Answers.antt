@@ -7,10 +7,7 @@ use Rattle.runs.proofs.Covering.{raise_here}
 use Rattle.runs.proofs.cover.raise.Goals as goal
 
 pub loop-x-preserved : goal.loop-x-preserved
-loop-x-preserved c = (
-  search rules,
-  turns_again _ _ _ _ _ _ (search rules) c.loop-x.invariant.1 (raise_here _ _ _ _ c.heavier.ensures),
-)
+loop-x-preserved c = turns_again _ _ _ _ _ _ (search rules) c.loop-x.invariant (raise_here _ _ _ _ c.heavier.ensures)
 
 pub returns : goal.returns
-returns c = turns_done _ _ _ _ _ c.loop-x-test.false c.loop-x.invariant.1
+returns c = turns_done _ _ _ _ _ c.loop-x-test.false c.loop-x.invariant

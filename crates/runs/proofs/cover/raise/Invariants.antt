@@ -2,15 +2,10 @@
 -- columns are left.
 use Prim.Native.Nat.{◌-◌}
 use mathlib.Core.Path.{◌≡◌}
-use lib.ListN.{length}
 use Rattle.ground.specs.Turns.{turns}
 use Rattle.runs.specs.Kept.{raise_column}
 use Rattle.runs.proofs.cover.raise.Given as goal
 
 abbrev pub invariant-loop-x : goal.invariant-loop-x
 invariant-loop-x l =
-    (length l.cover ≡ length l.initial.cover)
-    × (turns (raise_column l.weight) l.x (l.e - l.x) l.cover ≡ turns (raise_column l.weight) l.a (l.e - l.a) l.initial.cover)
-
-abbrev pub decreases-loop-x : goal.decreases-loop-x
-decreases-loop-x l = l.e - l.x
+    turns (raise_column l.weight) l.x (l.e - l.x) l.cover ≡ turns (raise_column l.weight) l.a (l.e - l.a) l.initial.cover

@@ -1,5 +1,4 @@
--- `colour_columns` colours each column by its owner. The invariant: what is left to colour makes of the row what all makes of the first. The measure: how
--- many columns are left.
+-- `colour_columns` colours each column by its owner. The invariant: what is left to colour makes of the row what all makes of the first.
 use borrow.Author.Rules.{rules}
 use Prim.Native.Nat.{◌-◌}
 use Rattle.ground.proofs.Turns.{turns_again, turns_done}
@@ -7,7 +6,7 @@ use Rattle.runs.specs.Runs.{colour_column}
 use Rattle.runs.proofs.owners.colour_columns.Goals as goal
 
 pub loop-x-preserved : goal.loop-x-preserved
-loop-x-preserved c = (search rules, turns_again _ _ _ _ _ _ (search rules) c.loop-x.invariant.1 c.colour_column.ensures)
+loop-x-preserved c = turns_again _ _ _ _ _ _ (search rules) c.loop-x.invariant c.colour_column.ensures
 
 pub returns : goal.returns
-returns c = turns_done _ _ _ _ _ c.loop-x-test.false c.loop-x.invariant.1
+returns c = turns_done _ _ _ _ _ c.loop-x-test.false c.loop-x.invariant

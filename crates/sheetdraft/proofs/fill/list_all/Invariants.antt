@@ -4,6 +4,3 @@ use Rattle.sheetdraft.proofs.fill.list_all.Given as goal
 
 abbrev pub invariant-loop-k : goal.invariant-loop-k
 invariant-loop-k l = (l.k ≤ l.things) × (length l.draft ≡ length l.initial.draft)
-
-abbrev pub decreases-loop-k : goal.decreases-loop-k
-decreases-loop-k l = l.things - l.k

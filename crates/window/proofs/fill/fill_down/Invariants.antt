@@ -1,7 +1,5 @@
 -- `fill_down` puts a value into a column, in the rows that the window has. The loop's invariant is the work left.
-use Prim.Native.Nat.{◌≤◌, ◌-◌}
 use mathlib.Core.Path.{◌≡◌}
-use lib.ListN.{length}
 use Rattle.window.specs.Writes.{fill}
 use Rattle.window.specs.Computed.{on_rows}
 use Rattle.window.proofs.Down.{window}
@@ -9,10 +7,5 @@ use Rattle.window.proofs.fill.fill_down.Given as goal
 
 abbrev pub invariant-loop-y : goal.invariant-loop-y
 invariant-loop-y l =
-    (length l.plane ≡ length l.initial.plane)
-    × (l.first ≤ l.y)
-    × (on_rows (window l.width l.first l.rows) l.y l.high (λ k. fill l.value l.x 1) l.plane
-    ≡ on_rows (window l.width l.first l.rows) l.initial.y l.high (λ k. fill l.value l.x 1) l.initial.plane)
-
-abbrev pub decreases-loop-y : goal.decreases-loop-y
-decreases-loop-y l = l.end - l.y
+    on_rows (window l.width l.first l.rows) l.y l.high (λ k. fill l.value l.x 1) l.plane
+    ≡ on_rows (window l.width l.first l.rows) l.initial.y l.high (λ k. fill l.value l.x 1) l.initial.plane
