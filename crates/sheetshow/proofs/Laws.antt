@@ -33,6 +33,14 @@ text_fits n rows cells colours out p q long =
     let all : coloured_room n rows ≤ band_bytes = mul-le-mul q row in
     omega (arith, band_room n rows cells colours)
 
+-- and ends within it
+pub text_within :
+    (n rows bytes : ℕ) (cells colours : List ℕ) → bytes ≡ length (band_text n rows cells colours) → n ≤ max_width → rows ≤ band_rows → bytes ≤ band_bytes
+text_within n rows bytes cells colours same p q =
+    let row : 23 * n + 5 ≤ 23 * max_width + 5 = omega arith in
+    let all : coloured_room n rows ≤ band_bytes = mul-le-mul q row in
+    omega (arith, band_room n rows cells colours, same)
+
 -- Rows of a sheet that is painted whole are in its cells.
 pub rows_inside : (n high first rows room : ℕ) → n * high ≤ room → first + rows ≤ high → n * (first + rows) ≤ room
 rows_inside n high first rows room h p =
@@ -102,6 +110,6 @@ module _ (image : List ℕ) (band : ℕ) (cells scratch : List ℕ) (answer : Ou
 
 -- Code 0, for what follows the call, which leaves as many cells.
 pub whole_shown :
-    (image cells : List ℕ) (words : ℕ) (answer : Outcome) → Answered image cells answer → answer.code ≡ 0 → words ≡ length cells →
+    (image cells : List ℕ) (words : ℕ) (answer : Outcome) → Answered image cells answer → answer.code ≡ 0 → length cells ≡ words →
     width image * height image ≤ words
-whole_shown image cells words answer a z same = rw same (a.whole z).1
+whole_shown image cells words answer a z same = rw (sym same) (a.whole z).1

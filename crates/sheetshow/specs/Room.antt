@@ -23,13 +23,6 @@ band_bytes = coloured_room max_width band_rows
 abbrev pub scratch_words : ℕ
 scratch_words = 8 * max_runs + 2 * max_elements
 
--- the buffers that are painted in
-pub record Planes (cells colours stamps scratch : List ℕ) : Type 0 where
-  pub in_cells : length cells ≡ band_cells
-  pub in_colours : length colours ≡ band_cells
-  pub in_stamps : length stamps ≡ band_cells
-  pub in_scratch : length scratch ≡ scratch_words
-
 -- what a code says of an image: 0 that its rows have room in the cells, 12 that it is accepted
 pub record Answered (image cells : List ℕ) (answer : Outcome) : Type 0 where
   pub whole : answer.code ≡ 0 → (width image ≤ max_width) × (width image * height image ≤ length cells)

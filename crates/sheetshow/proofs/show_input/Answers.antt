@@ -1,12 +1,7 @@
 -- `show_input` shows the words that were read, a part of its buffer.
 use borrow.Author.Rules.{rules}
-use mathlib.Core.Path.{sym}
-use lib.Seq.{length-take-le}
 use Rattle.image_input.proofs.Laws.{words_within}
 use Rattle.sheetshow.proofs.show_input.Goals as goal
 
-pub slice_bounds-show_image-end : goal.slice_bounds-show_image-end
-slice_bounds-show_image-end g c = search (words_within, rules)
-
-pub slice_bounds-show_image-end-2 : goal.slice_bounds-show_image-end-2
-slice_bounds-show_image-end-2 g c = sym (length-take-le _ _ (search (words_within, rules)))
+pub shared_ref_as_front-show_image : goal.shared_ref_as_front-show_image
+shared_ref_as_front-show_image g c = search (words_within, rules)
