@@ -1,10 +1,10 @@
 -- Laws over plain values, which the functions' proofs and the theorems cite.
-use Rattle.std.specs.Prelude.{Option}
+use Rattle.std.specs.Prelude.{Option, Some, None}
 use Prim.Native.Nat.{ℕ, ◌+◌, ◌*◌, ◌-◌, ◌≤◌, ◌<◌}
 use native.Mathlib.Nat.{add_assoc, add-mul}
 use native.Mathlib.Omega.{arith}
 use mathlib.Core.Path.{◌≡◌, refl}
-use mathlib.Core.Bool.{Bool, and-false}
+use mathlib.Core.Bool.{Bool, true, false, and-false}
 use mathlib.Core.List.{List}
 use lib.ListN.{length, take, drop}
 use borrow.Author.Tests.{le-leb, lt-leb}
@@ -83,6 +83,16 @@ no_points (SideChannel channel start end) k o = refl
 no_points (MultiSegment span offset) k o = absurd (k span offset refl)
 no_points (Orthogonal span) k o = absurd (o span refl)
 no_points Spline k o = refl
+
+-- the label of an edge, by the flag that says whether it has one
+module _ (flags : ℕ) (span : Span) (test : Bool) (e : test ≡ flag flags label_present) where
+  pub label_present_lem : test ≡ true → Some span ≡ edge_label_of (flag flags label_present) span
+  unfolding edge_label_of
+  label_present_lem h = rw (← e, h)
+
+  pub label_absent : test ≡ false → None ≡ edge_label_of (flag flags label_present) span
+  unfolding edge_label_of
+  label_absent h = rw (← e, h)
 
 -- the header and each record, of the words and the parts by which it is read
 

@@ -8,7 +8,8 @@ use mathlib.Core.Path.{◌≡◌, ap}
 use lib.ListN.{length, get_or, set, drop, drop_of_length-le}
 use lib.Seq.{drop-cons}
 use Rattle.ground.specs.Each.{numbers}
-use Rattle.paintlines.specs.Lent.{checksum_from}
+use Rattle.std.proofs.Common.{map-id}
+use Rattle.paintlines.specs.Lent.{checksum_from, checksum}
 
 -- The pattern, of a value for each index.
 
@@ -61,3 +62,7 @@ module _ {A : Type 0} (value : A → ℕ) (items : List A) where
   pub all_summed : (sum k r : ℕ) → checksum_from sum (map value (drop k items)) ≡ r → length items ≤ k → sum ≡ r
   unfolding checksum_from
   all_summed sum k r i h = rw (drop_of_length-le items h) at i
+
+-- The checksum of words, and that of bytes, each of which is its own number: that of the list as it stands.
+pub checksum_of_same : (items : List ℕ) → checksum (map (λ (n : ℕ). n) items) ≡ checksum items
+checksum_of_same items = ap checksum (map-id items)

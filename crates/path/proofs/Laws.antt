@@ -4,7 +4,7 @@ use mathlib.Core.Path.{◌≡◌, refl, sym, ◌∙◌, ap}
 use Prim.Native.Nat.{ℕ}
 use mathlib.Core.Bool.{Bool, true, false, not}
 use mathlib.Core.List.{List, [], ◌∷◌}
-use borrow.Author.Tests.{ne_eqb}
+use borrow.Author.Tests.{ne_eqb, eq-eqb}
 use Rattle.image.specs.declared.Edge.{Edge}
 use Rattle.image.specs.declared.Point.{Point}
 use Rattle.image.specs.declared.Span.{Span}
@@ -112,9 +112,17 @@ below_none None false h = h
 below_none (Some n) true h = h
 below_none (Some n) false h = refl
 
--- Whether a leg whose ends differ across the flow has a corner below 0: by its corner.
+-- Whether a leg has a corner below 0: not where its ends do not differ across the flow, else by its corner.
 
 module _ (axis : FlowAxis) (e : Edge) (offset : ℕ) (leg : Leg) where
+  pub straight_y_lem : leg.x1 ≡ leg.x2 → axis ≡ Y → false ≡ leg_below axis e offset leg
+  unfolding leg_below
+  straight_y_lem h a = rw (a, eq-eqb _ _ h)
+
+  pub straight_x_lem : leg.y1 ≡ leg.y2 → axis ≡ X → false ≡ leg_below axis e offset leg
+  unfolding leg_below
+  straight_x_lem h a = rw (a, eq-eqb _ _ h)
+
   module _ (corner : Option ℕ) (r : Bool) where
     pub bent_y_lem : corner ≡ corner_row e offset leg → is_some corner ≡ not r → (leg.x1 ≡ leg.x2 → ⊥) → axis ≡ Y → r ≡ leg_below axis e offset leg
     unfolding leg_below

@@ -68,6 +68,16 @@ impl Rows {
     }
 }
 
+// Whether all rows lie from low to high, as they do where there are none.
+pub fn within(rows: Option<Rows>, low: usize, high: usize) -> bool
+    ensures { result ≡ rows_within low high rows }
+{
+    match rows {
+        None => true,
+        Some(some) => some.within(low, high),
+    }
+}
+
 // From the least row of both to the greatest.
 pub fn join(one: Option<Rows>, other: Option<Rows>) -> Option<Rows>
     ensures { result ≡ join_rows one other }

@@ -1,6 +1,5 @@
 -- A value in columns of a row, what is painted on a part of a plane, and the planes that are lent.
 use native.Mathlib.Omega.{arith}
-use native.Mathlib.Numerals.{add-one}
 use Prim.Native.Nat.{ℕ, zero, suc, ◌+◌, ◌-◌, ◌*◌, ◌≤◌, ◌<◌, min}
 use mathlib.Core.Bool.{Bool, true, false}
 use mathlib.Core.List.{List}
@@ -38,28 +37,29 @@ fill_clip value x (suc more) row =
 
 -- a turn of the loop
 pub fill_again :
-    (value k end : ℕ) (row whole : List ℕ) →
-    k < end →
-    fill value k (end - k) row ≡ whole →
-    fill value (k + 1) (end - (k + 1)) (set row k value) ≡ whole
+    (value x k count : ℕ) (row whole : List ℕ) →
+    k < count →
+    fill value (x + k) (count - k) row ≡ whole →
+    fill value (x + (k + 1)) (count - (k + 1)) (set row (x + k) value) ≡ whole
 unfolding fill
-fill_again value k end row whole h e =
-    let d : end - k ≡ suc (end - (k + 1)) = omega arith in
-    let first : fill value k (end - k) row ≡ fill value (k + 1) (end - (k + 1)) (set row k value) = rw (d, add-one k) in
+fill_again value x k count row whole h e =
+    let d : count - k ≡ suc (count - (k + 1)) = omega arith in
+    let n : x + (k + 1) ≡ suc (x + k) = omega arith in
+    let first : fill value (x + k) (count - k) row ≡ fill value (x + (k + 1)) (count - (k + 1)) (set row (x + k) value) = rw (d, n) in
     sym first ∙ e
 
 -- its end
 pub fill_done :
-    (value x k end room columns : ℕ) (row before : List ℕ) →
-    end ≤ k →
+    (value x k count room columns : ℕ) (row before : List ℕ) →
+    count ≤ k →
     room ≡ length before - x →
-    end ≡ x + min columns room →
-    fill value k (end - k) row ≡ fill value x (end - x) before →
+    count ≡ min columns room →
+    fill value (x + k) (count - k) row ≡ fill value x count before →
     row ≡ fill value x columns before
 unfolding fill
-fill_done value x k end room columns row before h r m e =
-    let none : end - k ≡ 0 = omega arith in
-    let some : end - x ≡ min columns (length before - x) = omega arith in
+fill_done value x k count room columns row before h r m e =
+    let none : count - k ≡ 0 = omega arith in
+    let some : count ≡ min columns (length before - x) = omega arith in
     (rw (none, some) at e) ∙ fill_clip value x columns before
 
 -- What is painted: nothing, or a value.

@@ -12,9 +12,9 @@ pub fn fill(row: &mut [u32], x: usize, columns: usize, value: u32)
     ensures { row.new ≡ fill value x columns row.old }
 {
     let room = ground::minus(row.len(), x);
-    let end = x + ground::min(columns, room);
-    for k in x..end {
-        row[k] = value;
+    // counted from 0: of one column the compiler then sees that it is one
+    for k in 0..ground::min(columns, room) {
+        row[x + k] = value;
     }
 }
 
